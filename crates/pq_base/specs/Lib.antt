@@ -1,0 +1,9 @@
+pub mod SignedWord
+pub mod LPresentation
+pub mod Table
+pub mod Presentation
+pub mod Joined
+pub mod Series
+pub mod Answer
+pub mod Largest
+pub mod Canonical

@@ -2,3 +2,5 @@ pub mod WordLaws
 pub mod LetterLaws
 pub mod ChainLaws
 pub mod JoinedLaws
+pub mod Groups
+pub mod WordGroup

@@ -4,3 +4,4 @@ pub mod ChainLaws
 pub mod JoinedLaws
 pub mod Groups
 pub mod WordGroup
+pub mod TableLaws

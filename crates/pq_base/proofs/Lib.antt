@@ -5,3 +5,4 @@ pub mod JoinedLaws
 pub mod Groups
 pub mod WordGroup
 pub mod TableLaws
+pub mod TableGroup

@@ -2,8 +2,10 @@ pub mod WordLaws
 pub mod LetterLaws
 pub mod ChainLaws
 pub mod JoinedLaws
+pub mod RangeLaws
 pub mod Groups
+pub mod GroupSolver
+pub mod GroupIdentities
 pub mod WordGroup
 pub mod TableLaws
 pub mod TableGroup
-pub mod RangeLaws

@@ -8,3 +8,6 @@ pub mod Answer
 pub mod Largest
 pub mod Canonical
 pub mod Laws
+pub mod Prime
+pub mod Name
+pub mod Status

@@ -4,7 +4,17 @@
 #![tactic(auto)]
 
 pub mod laws;
+pub mod limits;
+pub mod name;
+pub mod path;
+pub mod prime;
+pub mod refusal;
+pub mod status;
+#[cfg(test)]
+mod tests;
 
-/// Nothing could be allocated.
-#[derive(Clone, Copy, Debug, PartialEq, Eq)]
-pub struct NoMemory;
+pub use name::Name;
+pub use path::Path;
+pub use prime::Prime;
+pub use refusal::NoMemory;
+pub use status::Status;

@@ -7,3 +7,5 @@ pub mod Series
 pub mod Answer
 pub mod Largest
 pub mod Canonical
+pub mod Elementary
+pub mod ClassOne

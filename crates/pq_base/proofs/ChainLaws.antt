@@ -1,6 +1,6 @@
 -- Chains over any predicate of trivial words are an equivalence that concatenation keeps, and the least one: a relation
 -- that is an equivalence and holds at every insertion contains them. Only this file opens a chain.
-use Rattle.std.proofs.Common.{◌≡◌, ℤ, List, [], ◌++◌, append_assoc}
+use Rattle.std.proofs.Common.{ℤ, List, [], ◌++◌, append_assoc}
 use Rattle.std.proofs.lemmas.List.{append-nil}
 use Rattle.pq_base.specs.Joined.{Move, Chain}
 use Rattle.pq_base.specs.Joined.Move.{insert, delete}

@@ -6,3 +6,6 @@ pub mod ElementarySides
 pub mod ExponentSums
 pub mod ElementaryLaws
 pub mod Generated
+pub mod Groups
+pub mod WordGroup
+pub mod TableLaws

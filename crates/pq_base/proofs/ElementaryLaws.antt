@@ -14,8 +14,9 @@ use Rattle.pq_base.specs.Series.NextWord.{no_word, then_commutator, then_power}
 use Rattle.pq_base.specs.Elementary.{zeros, elementary, ElementaryIsConsistentOfClassOne}
 use Rattle.pq_base.proofs.WordLaws.{word_from-zeros}
 use Rattle.pq_base.proofs.JoinedLaws.{joined-refl, joined-from_equal, joined-sym, joined-trans, joined-append_left, joined-append_right, joined-solve_right, commute-from_comm, commutator-joined, power-joined}
+use Rattle.pq_base.proofs.TableLaws.{get_or-below}
 use Rattle.pq_base.proofs.ElementarySides.{power_word-elementary, commutator_word-elementary, zeros-below, elementary-presentation}
-use Rattle.pq_base.proofs.ExponentSums.{count_letters, AllBelow-get_or, exponent_sum, exponent_sum-append, exponent_sum-copies, exponent_sum-comm, exponent_sum-word_from, joined_sum, elementary-unique}
+use Rattle.pq_base.proofs.ExponentSums.{count_letters, exponent_sum, exponent_sum-append, exponent_sum-copies, exponent_sum-comm, exponent_sum-word_from, joined_sum, elementary-unique}
 
 -- powers of letters are trivial, and letters commute
 pub letter_power : (p n i : ℕ) → i < n → Joined (elementary p n) (copies (letter i) p) []
@@ -118,7 +119,7 @@ trivial-from_sums q n w h sums =
     let s = settled q n w h in
     let long : length s.exponents ≡ n = s.count in
     let none : s.exponents ≡ zeros n = ext_get_or 0 s.exponents (zeros n) (s.count ∙ sym (length-replicate n 0)) (λ k below.
-    sym (mod-eq_of_lt (AllBelow-get_or (suc q) k s.exponents (omega arith) s.below))
+    sym (mod-eq_of_lt (get_or-below (suc q) s.exponents k (omega arith) s.below))
     ∙ ap (λ (x : ℕ). x % suc q) (sym (exponent_sum-word_from q k 0 k s.exponents (omega arith)))
     ∙ sym (joined_sum q n k w (word_from 0 s.exponents) s.joined)
     ∙ sums k (omega arith)

@@ -1,16 +1,16 @@
 -- In an elementary presentation joined words have equal exponent sums modulo the prime, so normal words that are joined
 -- are equal. The prime is written suc q: an inverse letter counts as q.
-use Rattle.std.proofs.Common.{◌≡◌, ℕ, zero, suc, ◌+◌, ◌*◌, ◌%◌, ◌<◌, ◌≤◌, Bool, true, false, eqb, ℤ, pos, negsuc, neg_ℤ, List, [], ◌∷◌, ◌++◌, get_or, length, refl, ap, ap₂, sym, ◌∙◌, arith, add-zero, mul-one, ne_eqb, eq-eqb, mul-add, mod-eq_of_lt, mul-zero, suc-mul}
+use Rattle.std.proofs.Common.{◌≡◌, ℕ, zero, suc, ◌+◌, ◌*◌, ◌%◌, ◌<◌, Bool, true, false, eqb, ℤ, pos, negsuc, neg_ℤ, List, [], ◌∷◌, ◌++◌, get_or, length, refl, ap, ap₂, sym, ◌∙◌, arith, add-zero, mul-one, ne_eqb, eq-eqb, mul-add, mod-eq_of_lt, mul-zero, suc-mul}
 use Rattle.std.proofs.Math.Nat.{add-mul-mod_self_left}
 use Rattle.std.proofs.lemmas.List.{ext_get_or, get_or_past}
 use Rattle.pq_base.specs.SignedWord.{inv, copies, comm}
-use Rattle.pq_base.specs.Table.{AllBelow}
 use Rattle.pq_base.specs.Presentation.{IsNormal, IsRelatorOf, letter, word_from, normal_word, power_word, commutator_word}
 use Rattle.pq_base.specs.Presentation.IsRelatorOf.{power_relator, commutator_relator}
 use Rattle.pq_base.specs.Joined.{IsTrivial, Joined}
 use Rattle.pq_base.specs.Joined.IsTrivial.{pair, relator}
 use Rattle.pq_base.specs.Elementary.{elementary}
 use Rattle.pq_base.proofs.JoinedLaws.{joined-induction}
+use Rattle.pq_base.proofs.TableLaws.{get_or-below}
 use Rattle.pq_base.proofs.ElementarySides.{power_word-elementary, commutator_word-elementary}
 
 abbrev pub counted : Bool → ℕ → ℕ
@@ -154,11 +154,6 @@ exponent_sum-word_from q k j (suc i) (x ∷ e) place =
       exponent_sum-word_from q k (suc j) i e (omega arith),
     )
 
-pub AllBelow-get_or : (p i : ℕ) (e : List ℕ) → 1 ≤ p → AllBelow p e → get_or e i 0 < p
-AllBelow-get_or p i [] h b = omega (arith, get_or_past {X = ℕ} [] i 0 (omega arith))
-AllBelow-get_or p zero (x ∷ e) h b = b.0
-AllBelow-get_or p (suc i) (x ∷ e) h b = AllBelow-get_or p i e h b.1
-
 -- normal words that are joined are equal
 pub elementary-unique : (q n : ℕ) (e f : List ℕ) → IsNormal (suc q) n e → IsNormal (suc q) n f
     → Joined (elementary (suc q) n) (normal_word e) (normal_word f) → e ≡ f
@@ -166,8 +161,8 @@ elementary-unique q n e f normal normal' joined =
     let long : length e ≡ n = normal.count in
     let long' : length f ≡ n = normal'.count in
     ext_get_or 0 e f (omega arith) (λ i h.
-    sym (mod-eq_of_lt (AllBelow-get_or (suc q) i e (omega arith) normal.below))
+    sym (mod-eq_of_lt (get_or-below (suc q) e i (omega arith) normal.below))
     ∙ ap (λ (s : ℕ). s % suc q) (sym (exponent_sum-word_from q i 0 i e (omega arith)))
     ∙ joined_sum q n i (normal_word e) (normal_word f) joined
     ∙ ap (λ (s : ℕ). s % suc q) (exponent_sum-word_from q i 0 i f (omega arith))
-    ∙ mod-eq_of_lt (AllBelow-get_or (suc q) i f (omega arith) normal'.below))
+    ∙ mod-eq_of_lt (get_or-below (suc q) f i (omega arith) normal'.below))

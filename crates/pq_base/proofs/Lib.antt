@@ -2,10 +2,13 @@ pub mod WordLaws
 pub mod LetterLaws
 pub mod ChainLaws
 pub mod JoinedLaws
+pub mod Groups
+pub mod WordGroup
+pub mod TableLaws
 pub mod ElementarySides
 pub mod ExponentSums
 pub mod ElementaryLaws
 pub mod Generated
-pub mod Groups
-pub mod WordGroup
-pub mod TableLaws
+pub mod ClassOneAnswer
+pub mod ClassOneUniversal
+pub mod ClassOneLargest

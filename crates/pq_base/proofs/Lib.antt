@@ -12,3 +12,4 @@ pub mod Generated
 pub mod ClassOneAnswer
 pub mod ClassOneUniversal
 pub mod ClassOneLargest
+pub mod ClassOneVectors

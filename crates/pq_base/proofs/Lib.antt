@@ -13,3 +13,4 @@ pub mod ClassOneAnswer
 pub mod ClassOneUniversal
 pub mod ClassOneLargest
 pub mod ClassOneVectors
+pub mod TableGroup

@@ -1,5 +1,6 @@
 -- In a group table the first place of 0 in a row is the inverse on both sides, and products cancel.
-use Rattle.std.proofs.Common.{◌≡◌, ℕ, zero, suc, ◌<◌, ℤ, pos, negsuc, List, [], ◌∷◌, get_or, length, refl, ap, sym, ◌∙◌, arith}
+use Rattle.std.proofs.Common.{◌≡◌, ℕ, zero, suc, ◌+◌, ◌*◌, ◌<◌, ℤ, pos, negsuc, List, [], ◌∷◌, get_or, length, refl, ap, sym, ◌∙◌, add-one, arith}
+use Rattle.std.proofs.Math.Nat.{zero-add, suc-add, mul-zero, mul-suc}
 use Rattle.pq_base.specs.Table.{Table, IsGroup, AllBelow, times, place_of_zero, inverse, element_of, value, power, commutator}
 
 get_or-place_of_zero : (xs : List ℕ) → get_or xs (place_of_zero xs) 0 ≡ 0
@@ -102,3 +103,61 @@ pub commutator-below : (T : Table) → IsGroup T → (a b : ℕ) → a < T.size 
 commutator-below T g a b l m =
     g.closed (inverse T a) (times T (inverse T b) (times T a b)) (inverse-below T g a l)
     (g.closed (inverse T b) (times T a b) (inverse-below T g b m) (g.closed a b l m))
+
+-- powers
+pub power-add : (T : Table) → IsGroup T → (a m n : ℕ) → a < T.size → power T a (m + n) ≡ times T (power T a m) (power T a n)
+power-add T g a zero n l = ap (power T a) (zero-add n) ∙ sym (g.neutral_left (power T a n) (power-below T g a n l))
+power-add T g a (suc m) n l =
+    ap (power T a) (suc-add m n) ∙ ap (times T a) (power-add T g a m n l)
+    ∙ sym (g.associative a (power T a m) (power T a n) l (power-below T g a m l) (power-below T g a n l))
+
+pub power-one : (T : Table) → IsGroup T → (a : ℕ) → a < T.size → power T a 1 ≡ a
+power-one T g a l = g.neutral_right a l
+
+pub power-of_zero : (T : Table) → IsGroup T → (n : ℕ) → power T 0 n ≡ 0
+power-of_zero T g zero = refl
+power-of_zero T g (suc n) = g.neutral_left (power T 0 n) (power-below T g 0 n g.nonempty) ∙ power-of_zero T g n
+
+pub times-power : (T : Table) → IsGroup T → (a n : ℕ) → a < T.size → times T a (power T a n) ≡ times T (power T a n) a
+times-power T g a n l =
+    ap (power T a) (sym (add-one n)) ∙ power-add T g a n 1 l ∙ ap (times T (power T a n)) (power-one T g a l)
+
+pub power-mul : (T : Table) → IsGroup T → (a m n : ℕ) → a < T.size → power T a (m * n) ≡ power T (power T a m) n
+power-mul T g a m zero l = ap (power T a) (mul-zero m)
+power-mul T g a m (suc n) l =
+    ap (power T a) (mul-suc m n) ∙ power-add T g a (m * n) m l
+    ∙ ap (λ (x : ℕ). times T x (power T a m)) (power-mul T g a m n l)
+    ∙ sym (times-power T g (power T a m) n (power-below T g a m l))
+
+-- elements that commute: powers commute too, and the power of the product is the product of the powers
+pub power-commute : (T : Table) → IsGroup T → (a b n : ℕ) → a < T.size → b < T.size → times T a b ≡ times T b a
+    → times T (power T a n) b ≡ times T b (power T a n)
+power-commute T g a b zero l m e = g.neutral_left b m ∙ sym (g.neutral_right b m)
+power-commute T g a b (suc n) l m e =
+    let k = power-below T g a n l in
+    g.associative a (power T a n) b l k m
+    ∙ ap (times T a) (power-commute T g a b n l m e)
+    ∙ sym (g.associative a b (power T a n) l m k)
+    ∙ ap (λ (x : ℕ). times T x (power T a n)) e
+    ∙ g.associative b a (power T a n) m l k
+
+pub power-times : (T : Table) → IsGroup T → (a b n : ℕ) → a < T.size → b < T.size → times T a b ≡ times T b a
+    → power T (times T a b) n ≡ times T (power T a n) (power T b n)
+power-times T g a b zero l m e = sym (g.neutral_left 0 g.nonempty)
+power-times T g a b (suc n) l m e =
+    let j = power-below T g a n l in
+    let k = power-below T g b n m in
+    ap (times T (times T a b)) (power-times T g a b n l m e)
+    ∙ g.associative a b (times T (power T a n) (power T b n)) l m (g.closed (power T a n) (power T b n) j k)
+    ∙ ap (times T a) (sym (g.associative b (power T a n) (power T b n) m j k)
+    ∙ ap (λ (x : ℕ). times T x (power T b n)) (sym (power-commute T g a b n l m e))
+    ∙ g.associative (power T a n) b (power T b n) j m k)
+    ∙ sym (g.associative a (power T a n) (times T b (power T b n)) l j (g.closed b (power T b n) m k))
+
+pub inverse-power : (T : Table) → IsGroup T → (a n : ℕ) → a < T.size → inverse T (power T a n) ≡ power T (inverse T a) n
+inverse-power T g a zero l = inverse-zero T g
+inverse-power T g a (suc n) l =
+    let k = power-below T g a n l in
+    inverse-of_times T g a (power T a n) l k
+    ∙ ap (λ (x : ℕ). times T x (inverse T a)) (inverse-power T g a n l)
+    ∙ sym (times-power T g (inverse T a) n (inverse-below T g a l))

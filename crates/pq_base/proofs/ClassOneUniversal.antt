@@ -4,7 +4,7 @@ use Rattle.std.proofs.Common.{◌≡◌, ℕ, zero, suc, ◌+◌, ◌<◌, ◌�
 use Rattle.std.proofs.lemmas.List.{append-nil, ext_get_or, get_or_default}
 use Rattle.pq_base.specs.SignedWord.{inv, copies, comm}
 use Rattle.pq_base.specs.LPresentation.{LPresentation, IsRelator, Obeys}
-use Rattle.pq_base.specs.Table.{Table, IsGroup, HasTableClass, AllBelow, times, inverse, power, commutator, value}
+use Rattle.pq_base.specs.Table.{Table, IsGroup, HasTableClass, AllBelow, times, power, commutator, value}
 use Rattle.pq_base.specs.Table.NextElement.{no_element, times_commutator, times_power}
 use Rattle.pq_base.specs.Presentation.{IsRelatorOf, letter}
 use Rattle.pq_base.specs.Presentation.IsRelatorOf.{power_relator, commutator_relator}
@@ -12,7 +12,8 @@ use Rattle.pq_base.specs.Answer.{image_words}
 use Rattle.pq_base.specs.Largest.{IsUniversal}
 use Rattle.pq_base.specs.Elementary.{elementary}
 use Rattle.pq_base.specs.ClassOne.{left_count, class_one_images, class_one_answer}
-use Rattle.pq_base.proofs.TableLaws.{get_or-below, power-below, commutator-below}
+use Rattle.pq_base.proofs.TableLaws.{get_or-below, power-below, commutator-below, value-below}
+use Rattle.pq_base.proofs.TableGroup.{value-copies, value-comm, value-letter}
 use Rattle.pq_base.proofs.ElementarySides.{power_word-elementary, commutator_word-elementary}
 use Rattle.pq_base.proofs.ClassOneAnswer.{left_before, not_left_past, left_place, length-class_one_images, image_word-killed, image_word-left}
 
@@ -21,14 +22,6 @@ pub record AreFlags (L : LPresentation) (killed : List Bool) : Type 0 where
   pub count : length killed ≡ length L.names
   pub is_relator : (i : ℕ) → get_or killed i false ≡ true → IsRelator L (letter i)
   pub is_flagged : (r : List ℤ) → IsRelator L r → (i : ℕ) × (get_or killed i false ≡ true) × (r ≡ letter i)
-
--- values of letters and of their powers
-value-letter : (T : Table) → IsGroup T → (g : List ℕ) (i : ℕ) → AllBelow T.size g → value T g (letter i) ≡ get_or g i 0
-value-letter T group g i below = group.neutral_right (get_or g i 0) (get_or-below T.size g i group.nonempty below)
-
-value-copies_letter : (T : Table) (g : List ℕ) (i n : ℕ) → value T g (copies (letter i) n) ≡ power T (get_or g i 0) n
-value-copies_letter T g i zero = refl
-value-copies_letter T g i (suc n) = ap (λ (x : ℕ). times T (get_or g i 0) x) (value-copies_letter T g i n)
 
 -- in a table of class 1
 module _ (T : Table) (group : IsGroup T) (p : ℕ) (class : HasTableClass T p 1) where
@@ -44,14 +37,12 @@ module _ (T : Table) (group : IsGroup T) (p : ℕ) (class : HasTableClass T p 1)
   obeys_relators : (n : ℕ) (g : List ℕ) → AllBelow T.size g → (r : List ℤ) → IsRelatorOf (elementary p n) r → value T g r ≡ 0
   obeys_relators n g below r (power_relator i h) =
       ap (λ (w : List ℤ). value T g (copies (letter i) p ++ inv w)) (power_word-elementary p n i)
-      ∙ ap (value T g) (append-nil (copies (letter i) p)) ∙ value-copies_letter T g i p
-      ∙ power-neutral (get_or g i 0) (get_or-below T.size g i group.nonempty below)
+      ∙ ap (value T g) (append-nil (copies (letter i) p)) ∙ value-copies T group g below (letter i) p
+      ∙ power-neutral (value T g (letter i)) (value-below T group g below (letter i))
   obeys_relators n g below r (commutator_relator j i h e) =
-      let a : ℕ = get_or g j 0 in
-      let b : ℕ = get_or g i 0 in
       ap (λ (w : List ℤ). value T g (comm (letter j) (letter i) ++ inv w)) (commutator_word-elementary p n j i)
-      ∙ ap (λ (x : ℕ). times T (inverse T a) (times T (inverse T b) (times T a x))) (value-letter T group g i below)
-      ∙ commutator-neutral a b (get_or-below T.size g j group.nonempty below) (get_or-below T.size g i group.nonempty below)
+      ∙ ap (value T g) (append-nil (comm (letter j) (letter i))) ∙ value-comm T group g below (letter j) (letter i)
+      ∙ commutator-neutral (value T g (letter j)) (value T g (letter i)) (value-below T group g below (letter j)) (value-below T group g below (letter i))
 
 -- the elements of the generators that are left
 abbrev pub left_from : ℕ → List ℕ → List Bool → List ℕ
@@ -88,11 +79,11 @@ image_value : (L : LPresentation) (p : ℕ) (killed : List Bool) → AreFlags L 
 image_value L p killed flags T f group obeys i h true e =
     let flag : get_or killed i false ≡ true = get_or_default killed i false true h ∙ e in
     ap (value T (left_from 0 f killed)) (image_word-killed p L.names killed i flag)
-    ∙ sym (obeys.kills (letter i) (flags.is_relator i flag)) ∙ value-letter T group f i obeys.elements
+    ∙ sym (obeys.kills (letter i) (flags.is_relator i flag)) ∙ value-letter T group f obeys.elements i
 image_value L p killed flags T f group obeys i h false e =
     let place : 0 + i ≡ i = omega arith in
     ap (value T (left_from 0 f killed)) (image_word-left p L.names killed i e)
-    ∙ value-letter T group (left_from 0 f killed) (left_before killed i) (left_from-below T.size 0 f killed group.nonempty obeys.elements)
+    ∙ value-letter T group (left_from 0 f killed) (left_from-below T.size 0 f killed group.nonempty obeys.elements) (left_before killed i)
     ∙ get_or-left_from 0 f killed i e ∙ ap (λ (k : ℕ). get_or f k 0) place
 
 pub class_one_answer-universal : (L : LPresentation) (p : ℕ) (killed : List Bool) → AreFlags L killed
@@ -115,7 +106,7 @@ class_one_answer-universal L p killed flags T f group class obeys =
           let at = left_place killed m (omega arith) in
           let within : at.place < length killed = at.within in
           let place : 0 + at.place ≡ at.place = omega arith in
-          sym (value-letter T group h m factors.elements)
+          sym (value-letter T group h factors.elements m)
           ∙ ap (λ (k : ℕ). value T h (letter k)) (sym at.before)
           ∙ ap (value T h) (sym (image_word-left p L.names killed at.place at.left))
           ∙ factors.images at.place (omega arith)

@@ -1,8 +1,7 @@
 -- The definitions of class one at small values: two generators of which the first is a relator, and none that is.
-use Rattle.std.proofs.Common.{◌≡◌, ℕ, zero, suc, ◌<◌, Bool, true, false, ℤ, pos, negsuc, List, [], ◌∷◌, get_or, length, refl, arith}
+use Rattle.std.proofs.Common.{◌≡◌, ℕ, zero, suc, ◌<◌, true, false, pos, negsuc, [], ◌∷◌, get_or, refl, arith}
 use Rattle.pq_base.specs.LPresentation.{LPresentation}
-use Rattle.pq_base.specs.Presentation.{Presentation, letter}
-use Rattle.pq_base.specs.Answer.{Answer, image_words, spell}
+use Rattle.pq_base.specs.Presentation.{letter}
 use Rattle.pq_base.specs.Answer.Definition.{image}
 use Rattle.pq_base.specs.Elementary.{elementary}
 use Rattle.pq_base.specs.ClassOne.{class_one_answer, flags_of, HasGeneratorRelators}

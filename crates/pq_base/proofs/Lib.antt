@@ -5,6 +5,7 @@ pub mod JoinedLaws
 pub mod Groups
 pub mod WordGroup
 pub mod TableLaws
+pub mod TableGroup
 pub mod ElementarySides
 pub mod ExponentSums
 pub mod ElementaryLaws
@@ -13,4 +14,3 @@ pub mod ClassOneAnswer
 pub mod ClassOneUniversal
 pub mod ClassOneLargest
 pub mod ClassOneVectors
-pub mod TableGroup

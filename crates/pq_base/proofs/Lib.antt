@@ -9,3 +9,11 @@ pub mod GroupIdentities
 pub mod WordGroup
 pub mod TableLaws
 pub mod TableGroup
+pub mod ElementarySides
+pub mod ExponentSums
+pub mod ElementaryLaws
+pub mod Generated
+pub mod ClassOneAnswer
+pub mod ClassOneUniversal
+pub mod ClassOneLargest
+pub mod ClassOneVectors

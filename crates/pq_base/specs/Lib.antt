@@ -11,3 +11,5 @@ pub mod Laws
 pub mod Prime
 pub mod Name
 pub mod Status
+pub mod Elementary
+pub mod ClassOne

@@ -1,0 +1,4 @@
+-- What the definitions say of the smallest groups: of each definition an example that meets it and one that does not.
+pub mod Tests
+pub mod Tables
+pub mod LargestQuotients

@@ -1,4 +1,7 @@
 -- What the definitions say of the smallest groups: of each definition an example that meets it and one that does not.
 pub mod Tests
 pub mod Tables
+pub mod Presentations
+pub mod SignedWords
+pub mod LPresentations
 pub mod LargestQuotients

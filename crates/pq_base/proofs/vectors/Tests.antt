@@ -1,6 +1,7 @@
 -- A test that computes settles a fact on all numbers below a bound. So a closed table or answer is judged by `refl`.
-use Rattle.std.proofs.Common.{◌≡◌, ◌<◌, ℕ, zero, suc, Bool, true, false, ◌&&◌, T, eqb, ltb, [], length, get_or, refl, sym, ap, ◌∙◌, subst, inl, inr, eq-or-lt_of_le, le_of_suc-le-suc, arith, eqb-true, eq-eqb, ltb-true}
-use Rattle.pq_base.specs.Table.{Table, IsGroup, HasTableClass, times, inverse, power, commutator}
+use Rattle.std.proofs.Common.{◌≡◌, ◌<◌, ◌+◌, ℕ, zero, suc, Bool, true, false, ◌&&◌, T, eqb, ltb, List, [], ◌∷◌, length, get_or, refl, sym, ap, ◌∙◌, subst, inl, inr, eq-or-lt_of_le, le_of_suc-le-suc, arith, eqb-true, eq-eqb, ltb-true}
+use Rattle.pq_base.specs.Presentation.{Presentation, IsPresentation, IsLaterSide, power_side, commutator_side}
+use Rattle.pq_base.specs.Table.{AllBelow, Table, IsGroup, HasTableClass, times, inverse, power, commutator}
 use Rattle.pq_base.specs.Table.NextElement.{no_element, times_commutator, times_power}
 
 pub differ : true ≡ false → ⊥
@@ -105,3 +106,40 @@ tested_class_one T p h x (times_commutator u v y hu hv hy) =
 tested_class_one T p h x (times_power u y hu hy) =
     let c : power T u p ≡ 0 = eqb-true (power T u p) 0 (at-below T.size (λ a. eqb (power T a p) 0) h.powers u hu) in
     ap (λ (m : ℕ). times T m y) c ∙ (ap (times T 0) (tested_class_one T p h y hy) ∙ h.neutral)
+
+abbrev pub are_below : ℕ → List ℕ → Bool
+are_below n [] = true
+are_below n (x ∷ xs) = ltb x n && are_below n xs
+
+pub tested_below : (n : ℕ) (xs : List ℕ) → are_below n xs ≡ true → AllBelow n xs
+tested_below n [] h = tt
+tested_below n (x ∷ xs) h =
+    let parts = both (ltb x n) (are_below n xs) h in (ltb-true x n parts.0, tested_below n xs parts.1)
+
+abbrev pub is_later_side : Presentation → ℕ → List ℕ → Bool
+is_later_side P i e = eqb (suc i + length e) P.rank && are_below P.prime e
+
+pub tested_side : (P : Presentation) (i : ℕ) (e : List ℕ) → is_later_side P i e ≡ true → IsLaterSide P i e
+tested_side P i e h =
+    let parts = both (eqb (suc i + length e) P.rank) (are_below P.prime e) h in
+    record { count = eqb-true (suc i + length e) P.rank parts.0; below = tested_below P.prime e parts.1 }
+
+-- what a closed presentation has to pass
+pub record PassesPresentation (P : Presentation) : Type 0 where
+  pub power_count : eqb (length P.powers) P.rank ≡ true
+  pub power_sides : passes_below P.rank (λ i. is_later_side P i (power_side P i)) ≡ true
+  pub commutator_count : eqb (length P.commutators) P.rank ≡ true
+  pub commutator_counts : passes_below P.rank (λ j. eqb (length (get_or P.commutators j [])) j) ≡ true
+  pub commutator_sides : passes_below P.rank (λ j. passes_below j (λ i. is_later_side P j (commutator_side P j i))) ≡ true
+
+pub tested_presentation : (P : Presentation) → PassesPresentation P → IsPresentation P
+tested_presentation P h = record {
+  power_count = eqb-true (length P.powers) P.rank h.power_count;
+  power_sides = λ i hi. tested_side P i (power_side P i) (at-below P.rank (λ k. is_later_side P k (power_side P k)) h.power_sides i hi);
+  commutator_count = eqb-true (length P.commutators) P.rank h.commutator_count;
+  commutator_counts = λ j hj. eqb-true (length (get_or P.commutators j [])) j
+      (at-below P.rank (λ k. eqb (length (get_or P.commutators k [])) k) h.commutator_counts j hj);
+  commutator_sides = λ j i hj hi. tested_side P j (commutator_side P j i)
+      (at-below j (λ k. is_later_side P j (commutator_side P j k))
+      (at-below P.rank (λ l. passes_below l (λ k. is_later_side P l (commutator_side P l k))) h.commutator_sides j hj) i hi);
+}

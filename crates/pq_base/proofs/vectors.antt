@@ -5,3 +5,5 @@ pub mod Presentations
 pub mod SignedWords
 pub mod LPresentations
 pub mod LargestQuotients
+pub mod JoinedWords
+pub mod Answers

@@ -5,5 +5,10 @@ pub mod Presentations
 pub mod SignedWords
 pub mod LPresentations
 pub mod LargestQuotients
+pub mod Homomorphisms
 pub mod JoinedWords
 pub mod Answers
+pub mod KilledRelators
+pub mod WantOrders
+pub mod CanonicalTests
+pub mod CanonicalAnswers

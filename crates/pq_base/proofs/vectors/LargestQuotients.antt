@@ -100,7 +100,7 @@ trivial_kills r (iterated_relator s i hs h) = absurd (omega (arith, h))
 pub trivial_is_generated : IsGenerated trivial_answer
 trivial_is_generated k h = absurd (omega (arith, h))
 
-first-below : (n : ℕ) (f : List ℕ) → length f ≡ 1 → AllBelow n f → get_or f 0 0 < n
+pub first-below : (n : ℕ) (f : List ℕ) → length f ≡ 1 → AllBelow n f → get_or f 0 0 < n
 first-below n [] e h = absurd (omega (arith, e))
 first-below n (a ∷ f) e h = h.0
 

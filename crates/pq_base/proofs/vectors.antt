@@ -9,6 +9,8 @@ pub mod Homomorphisms
 pub mod JoinedWords
 pub mod Answers
 pub mod KilledRelators
+pub mod OrderTwo
+pub mod LargestOfOrderTwo
 pub mod WantOrders
 pub mod CanonicalTests
 pub mod CanonicalAnswers

@@ -138,7 +138,7 @@ trivial_is_largest c = record {
   universal = trivial_is_universal c;
 }
 
-no-relator : (r : List ℤ) → IsRelator free_generator r → ⊥
+pub no-relator : (r : List ℤ) → IsRelator free_generator r → ⊥
 no-relator r (fixed_relator i h) = omega (arith, h)
 no-relator r (iterated_relator s i hs h) = omega (arith, h)
 

@@ -7,3 +7,4 @@ pub mod Groups
 pub mod WordGroup
 pub mod TableLaws
 pub mod TableGroup
+pub mod RangeLaws

@@ -7,6 +7,7 @@ use Rattle.pq_base.specs.SignedWord.{inv, copies, comm, image_of, sub, HasLetter
 use Rattle.pq_base.specs.Table.{Table, IsGroup, AllBelow, times, inverse, element_of, value, power, commutator}
 use Rattle.pq_base.specs.Presentation.{Presentation, IsRelatorOf, letter}
 use Rattle.pq_base.specs.Joined.{Chain, Joined}
+use Rattle.pq_base.specs.Laws.{JoinedWordsHaveEqualValues}
 use Rattle.pq_base.proofs.Groups.{Group, element_in, value_in, power_in, value_in-append, value_in-inv, value_in-copies, value_in-comm, value_in-chain, value_in-joined}
 use Rattle.pq_base.proofs.TableLaws.{times-inverse, inverse-times, inverse-below, get_or-below}
 
@@ -122,3 +123,6 @@ value-agree T n f g e [] h = refl
 value-agree T n f g e (pos zero ∷ w) h = absurd h.0
 value-agree T n f g e (pos (suc i) ∷ w) h = rw (e i h.0, value-agree T n f g e w h.1)
 value-agree T n f g e (negsuc i ∷ w) h = rw (e i h.0, value-agree T n f g e w h.1)
+
+pub joined_words_have_equal_values : JoinedWordsHaveEqualValues
+joined_words_have_equal_values P T f g h kills u v c = value-joined T g f h P kills c

@@ -6,6 +6,7 @@ use Rattle.pq_base.specs.SignedWord.{inv, image_of, sub, HasLetters}
 use Rattle.pq_base.specs.Presentation.{Presentation, IsRelatorOf}
 use Rattle.pq_base.specs.Joined.{IsTrivial, Joined}
 use Rattle.pq_base.specs.Joined.IsTrivial.{pair, relator}
+use Rattle.pq_base.specs.Laws.{SubstitutionsCarryJoinedWords}
 use Rattle.pq_base.proofs.ChainLaws.{chain-map}
 use Rattle.pq_base.proofs.JoinedLaws.{joined-refl, joined-sym, joined-trans, joined-append, joined-inv, joined-from_equal, append-inv-joined, inv-append-joined, pair-joined}
 use Rattle.pq_base.proofs.Groups.{Group, element_in, value_in, value_in-joined, value_in-same}
@@ -61,3 +62,6 @@ joined-weaken P Q kills c = chain-map trivial c
     trivial : (x : List ℤ) → IsTrivial P x → Joined Q x []
     trivial x (pair k) = pair-joined Q k
     trivial x (relator r h) = kills r h
+
+pub substitutions_carry_joined_words : SubstitutionsCarryJoinedWords
+substitutions_carry_joined_words P Q f kills u v c = joined-sub P Q f kills c

@@ -7,3 +7,4 @@ pub mod Series
 pub mod Answer
 pub mod Largest
 pub mod Canonical
+pub mod Laws

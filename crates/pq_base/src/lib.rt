@@ -3,6 +3,8 @@
 //! an answer the largest quotient. `laws` states what is proved of these definitions alone.
 #![tactic(auto)]
 
+pub mod laws;
+
 /// Nothing could be allocated.
 #[derive(Clone, Copy, Debug, PartialEq, Eq)]
 pub struct NoMemory;

@@ -1,6 +1,7 @@
 -- What the definitions say of the smallest groups: of each definition an example that meets it and one that does not.
 pub mod Tests
 pub mod Tables
+pub mod CycleOfFour
 pub mod Presentations
 pub mod SignedWords
 pub mod LPresentations
@@ -11,6 +12,7 @@ pub mod Answers
 pub mod KilledRelators
 pub mod OrderTwo
 pub mod LargestOfOrderTwo
+pub mod OrderOfFreeGenerator
 pub mod WantOrders
 pub mod CanonicalTests
 pub mod CanonicalAnswers

@@ -147,7 +147,7 @@ pub missing_image_is_no_l_presentation : IsLPresentation (record dihedral { endo
 missing_image_is_no_l_presentation h = unequal 1 2 refl h.endo_words.0
 
 -- x^2 along any list is x^2 or y^2
-square_along : (s : List ℕ) → AreEndoNumbers 1 s
+pub square_along : (s : List ℕ) → AreEndoNumbers 1 s
     → (along (swap ∷ []) s (pos 1 ∷ pos 1 ∷ []) ≡ pos 1 ∷ pos 1 ∷ []) ⊎ (along (swap ∷ []) s (pos 1 ∷ pos 1 ∷ []) ≡ pos 2 ∷ pos 2 ∷ [])
 square_along [] h = inl refl
 square_along (zero ∷ s) h = absurd h

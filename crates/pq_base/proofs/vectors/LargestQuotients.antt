@@ -1,10 +1,11 @@
 -- The trivial answer is the largest quotient of the group with one generator that is a relator, at every class and
--- prime 2. It is not that of the free group of rank 1, which maps onto the group of two elements.
+-- prime 2, and at class 0 of the free group of rank 1. At class 1 it is not, as that group maps onto the group of two
+-- elements.
 use Rattle.std.proofs.Common.{◌≡◌, ◌<◌, ℕ, zero, suc, ℤ, pos, negsuc, List, [], ◌∷◌, length, get_or, refl, sym, ◌∙◌, lit<, lit≤, zero-le, arith}
 use Rattle.pq_base.specs.SignedWord.{HasLetters}
 use Rattle.pq_base.specs.LPresentation.{LPresentation, IsRelator, Obeys}
 use Rattle.pq_base.specs.LPresentation.IsRelator.{fixed_relator, iterated_relator}
-use Rattle.pq_base.specs.Table.{Table, IsGroup, AllBelow, value}
+use Rattle.pq_base.specs.Table.{Table, IsGroup, value}
 use Rattle.pq_base.specs.Presentation.{Presentation, IsPresentation, IsRelatorOf}
 use Rattle.pq_base.specs.Presentation.IsRelatorOf.{power_relator, commutator_relator}
 use Rattle.pq_base.specs.Joined.{Joined, IsConsistent}
@@ -12,6 +13,7 @@ use Rattle.pq_base.specs.Joined.Chain.{done}
 use Rattle.pq_base.specs.Series.{InSeries, HasClass}
 use Rattle.pq_base.specs.Answer.{Answer, IsAnswer}
 use Rattle.pq_base.specs.Largest.{Kills, IsGenerated, IsUniversal, IsLargest}
+use Rattle.pq_base.proofs.TableLaws.{get_or-below}
 use Rattle.pq_base.proofs.vectors.Tests.{unequal}
 use Rattle.pq_base.proofs.vectors.Tables.{two_elements, two_elements_are_group, two_elements_have_class_one}
 
@@ -100,14 +102,10 @@ trivial_kills r (iterated_relator s i hs h) = absurd (omega (arith, h))
 pub trivial_is_generated : IsGenerated trivial_answer
 trivial_is_generated k h = absurd (omega (arith, h))
 
-pub first-below : (n : ℕ) (f : List ℕ) → length f ≡ 1 → AllBelow n f → get_or f 0 0 < n
-first-below n [] e h = absurd (omega (arith, e))
-first-below n (a ∷ f) e h = h.0
-
 -- the relator x has value f(x) · 1
 pub killed-element : (T : Table) (f : List ℕ) → IsGroup T → Obeys T f killed_generator → get_or f 0 0 ≡ 0
 killed-element T f g o =
-    sym (g.neutral_right (get_or f 0 0) (first-below T.size f o.count o.elements)) ∙ o.kills (pos 1 ∷ []) (fixed_relator 0 (lit< tt))
+    sym (g.neutral_right (get_or f 0 0) (get_or-below T.size f 0 g.nonempty o.elements)) ∙ o.kills (pos 1 ∷ []) (fixed_relator 0 (lit< tt))
 
 trivial-images : (T : Table) (f : List ℕ) → get_or f 0 0 ≡ 0 → (i : ℕ) → i < 1 → value T [] (get_or ([] ∷ []) i []) ≡ get_or f i 0
 trivial-images T f e zero h = sym e
@@ -141,6 +139,32 @@ trivial_is_largest c = record {
 pub no-relator : (r : List ℤ) → IsRelator free_generator r → ⊥
 no-relator r (fixed_relator i h) = omega (arith, h)
 no-relator r (iterated_relator s i hs h) = omega (arith, h)
+
+-- in a table of class 0 each element is neutral, so at class 0 the trivial answer is the largest quotient
+pub trivial_is_universal_at_class_zero : IsUniversal free_generator 2 0 trivial_answer
+trivial_is_universal_at_class_zero T f g c o = record {
+  through = [];
+  factors = record {
+    count = refl;
+    elements = tt;
+    relators = λ r h. absurd (no-relator-of r h);
+    images = trivial-images T f (c (get_or f 0 0) (get_or-below T.size f 0 g.nonempty o.elements));
+  };
+  only = λ h fits. no-letter-list h fits.count;
+}
+
+pub trivial_is_largest_at_class_zero : IsLargest free_generator 2 0 trivial_answer
+trivial_is_largest_at_class_zero = record {
+  answer = trivial_is_answer;
+  prime = refl;
+  names = refl;
+  class_limit = zero-le;
+  consistent = trivial_is_consistent;
+  class = trivial_has_class 0;
+  kills = λ r h. absurd (no-relator r h);
+  generated = trivial_is_generated;
+  universal = trivial_is_universal_at_class_zero;
+}
 
 pub one_obeys_nothing : Obeys two_elements (1 ∷ []) free_generator
 one_obeys_nothing = record { count = refl; elements = (lit< tt, tt); kills = λ r h. absurd (no-relator r h) }

@@ -1,3 +1,4 @@
+pub mod vectors
 pub mod WordLaws
 pub mod LetterLaws
 pub mod ChainLaws

@@ -6,6 +6,7 @@ pub mod RangeLaws
 pub mod Groups
 pub mod GroupSolver
 pub mod GroupIdentities
+pub mod GroupLevels
 pub mod WordGroup
 pub mod TableLaws
 pub mod TableGroup

@@ -7,6 +7,8 @@ pub mod Groups
 pub mod GroupSolver
 pub mod GroupIdentities
 pub mod GroupLevels
+pub mod GroupMaps
 pub mod WordGroup
 pub mod TableLaws
 pub mod TableGroup
+pub mod SeriesLaws

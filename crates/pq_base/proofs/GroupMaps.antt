@@ -59,9 +59,6 @@ module _ (G H : Group) (h : G.carrier → H.carrier) (m : IsMap G H h) where
     )
 
     -- onto the level
-    Reached : (G.carrier → Type 0) → H.carrier → Type 0
-    Reached S y = (x : G.carrier) × S x × H.same (h x) y
-
     next-reached : (S : G.carrier → Type 0) (R : H.carrier → Type 0) → ((y : H.carrier) → W y → (x : G.carrier) × V x × H.same (h x) y)
         → ((y : H.carrier) → R y → (x : G.carrier) × S x × H.same (h x) y)
         → {y : H.carrier} → NextIn H p W R y → (x : G.carrier) × NextIn G p V S x × H.same (h x) y

@@ -12,3 +12,5 @@ pub mod WordGroup
 pub mod TableLaws
 pub mod TableGroup
 pub mod SeriesLaws
+pub mod TableSeries
+pub mod CarryLaws

@@ -8,6 +8,7 @@ use Rattle.pq_base.specs.Presentation.{Presentation, IsRelatorOf}
 use Rattle.pq_base.specs.Joined.{Joined}
 use Rattle.pq_base.specs.Series.{InSeries, HasClass}
 use Rattle.pq_base.specs.Largest.{HasValue}
+use Rattle.pq_base.specs.Laws.{ValuesCarryTheSeries, GeneratedTablesHaveTheClass, SubstitutionsCarryTheSeries}
 use Rattle.pq_base.proofs.WordLaws.{sub-append}
 use Rattle.pq_base.proofs.LetterLaws.{HasLetters-sub}
 use Rattle.pq_base.proofs.JoinedLaws.{joined-from_equal}
@@ -67,3 +68,12 @@ series-sub P Q f e words kills k w s =
       same = λ c. joined-sub P Q f kills c;
       times = λ u v. joined-from_equal Q (sub-append u v f);
     }
+
+pub values_carry_the_series : ValuesCarryTheSeries
+values_carry_the_series P T f g h kills k w s = level-value P T g f h kills k w s
+
+pub generated_tables_have_the_class : GeneratedTablesHaveTheClass
+generated_tables_have_the_class P T f g h kills generated c class = table_class-generated P T g f h kills generated c class
+
+pub substitutions_carry_the_series : SubstitutionsCarryTheSeries
+substitutions_carry_the_series P Q f e words kills k w s = series-sub P Q f e words kills k w s

@@ -6,9 +6,10 @@ use Rattle.pq_base.specs.Presentation.{Presentation}
 use Rattle.pq_base.specs.Joined.{Joined}
 use Rattle.pq_base.specs.Series.{NextWord, InSeries, HasClass}
 use Rattle.pq_base.specs.Series.NextWord.{no_word, then_commutator, then_power}
+use Rattle.pq_base.specs.Laws.{LevelsAreNormal, ClassesGrow}
 use Rattle.pq_base.proofs.LetterLaws.{HasLetters-append, HasLetters-inv}
 use Rattle.pq_base.proofs.Groups.{power_in}
-use Rattle.pq_base.proofs.GroupLevels.{IsClosed, NextIn, InLevelIn, level-normal, level-same, level-commutator, level-power, level-fall_by}
+use Rattle.pq_base.proofs.GroupLevels.{IsClosed, NextIn, InLevelIn, level-normal, level-same, level-commutator, level-power, level-fall, level-fall_by}
 use Rattle.pq_base.proofs.GroupLevels.NextIn.{no_factor, commutator_times, power_times}
 use Rattle.pq_base.proofs.WordGroup.{word_group}
 
@@ -108,6 +109,11 @@ module _ (P : Presentation) where
       (level-same (word_group P) P.prime (HasLetters P.rank) (HasLetters-closed P) k u v c h (level-from_series P (suc k) u i))
 
   -- levels fall, and a greater class is allowed
+  pub series-fall_one : (k : ℕ) (w : List ℤ) → InSeries P (suc k) w → InSeries P k w
+  series-fall_one k w h =
+      series-from_level P k w
+      (level-fall (word_group P) P.prime (HasLetters P.rank) (HasLetters-closed P) k w (level-from_series P (suc k) w h))
+
   pub series-fall : (k d : ℕ) (w : List ℤ) → InSeries P (k + d) w → InSeries P k w
   series-fall k d w h =
       series-from_level P k w
@@ -116,3 +122,18 @@ module _ (P : Presentation) where
   pub class-weaken : (c d : ℕ) → c ≤ d → HasClass P c → HasClass P d
   class-weaken c d l h w i =
       h w (series-fall c (d - c) w (subst (λ (n : ℕ). InSeries P n w) (omega arith) i))
+
+pub levels_are_normal : LevelsAreNormal
+levels_are_normal P k = record {
+  empty = series-nil P k;
+  products = series-append P k;
+  inverses = series-inv P k;
+  conjugates = series-conj P k;
+  commutators = series-comm P k;
+  powers = series-power P k;
+  falls = series-fall_one P k;
+  joined = series-joined P k;
+}
+
+pub classes_grow : ClassesGrow
+classes_grow P c d l h = class-weaken P c d l h

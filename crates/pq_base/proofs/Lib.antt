@@ -7,6 +7,7 @@ pub mod Groups
 pub mod GroupSolver
 pub mod GroupIdentities
 pub mod GroupLevels
+pub mod GroupCommute
 pub mod GroupMaps
 pub mod WordGroup
 pub mod TableLaws

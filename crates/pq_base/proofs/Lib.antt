@@ -15,3 +15,5 @@ pub mod TableGroup
 pub mod SeriesLaws
 pub mod TableSeries
 pub mod CarryLaws
+pub mod CentralWords
+pub mod PowerLaws

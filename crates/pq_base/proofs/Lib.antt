@@ -17,3 +17,6 @@ pub mod TableSeries
 pub mod CarryLaws
 pub mod CentralWords
 pub mod PowerLaws
+pub mod GroupQuotients
+pub mod TableQuotients
+pub mod AlongLaws

@@ -42,8 +42,8 @@ abbrev pub JoinedWordsNeedNoOtherLetters : Type 0
 JoinedWordsNeedNoOtherLetters = (P : Presentation) → IsPresentation P → (u v : List ℤ) → HasLetters P.rank u → HasLetters P.rank v
     → Joined P u v ↔ ChainWithin P.rank (IsTrivial P) u v
 
--- level k holds products, inverses and conjugates of its words, and commutators and powers of the level before it; a later
--- level lies in it, and one after the first holds the words that are joined to its words
+-- level k holds the empty word, and the products, inverses and conjugates of its words; the next level holds their
+-- commutators and powers and every word over the generators that is joined to one of its own, and lies in level k
 pub record LevelIsNormal (P : Presentation) (k : ℕ) : Type 0 where
   pub empty : InSeries P k []
   pub products : (u v : List ℤ) → InSeries P k u → InSeries P k v → InSeries P k (u ++ v)

@@ -2,6 +2,7 @@
 pub mod Tests
 pub mod Tables
 pub mod CycleOfFour
+pub mod SymmetricGroup
 pub mod Presentations
 pub mod SignedWords
 pub mod LPresentations
@@ -12,6 +13,7 @@ pub mod Answers
 pub mod KilledRelators
 pub mod OrderTwo
 pub mod LargestOfOrderTwo
+pub mod DihedralTable
 pub mod OrderOfFreeGenerator
 pub mod WantOrders
 pub mod CanonicalTests

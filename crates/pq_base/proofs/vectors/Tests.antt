@@ -1,7 +1,9 @@
 -- A test that computes settles a fact on all numbers below a bound. So a closed table or answer is judged by `refl`.
-use Rattle.std.proofs.Common.{◌≡◌, ◌<◌, ◌+◌, ℕ, zero, suc, Bool, true, false, ◌&&◌, T, eqb, ltb, List, [], ◌∷◌, length, get_or, refl, sym, ap, ◌∙◌, subst, inl, inr, eq-or-lt_of_le, le_of_suc-le-suc, arith, eqb-true, eq-eqb, ltb-true}
-use Rattle.pq_base.specs.Presentation.{Presentation, IsPresentation, IsLaterSide, power_side, commutator_side}
-use Rattle.pq_base.specs.Table.{AllBelow, Table, IsGroup, HasTableClass, times, inverse, power, commutator}
+use Rattle.std.proofs.Common.{◌≡◌, ◌<◌, ◌+◌, ℕ, zero, suc, Bool, true, false, ◌&&◌, T, eqb, ltb, List, [], ◌∷◌, ◌++◌, ℤ, length, get_or, refl, sym, ap, ◌∙◌, subst, inl, inr, eq-or-lt_of_le, le_of_suc-le-suc, arith, eqb-true, eq-eqb, ltb-true}
+use Rattle.pq_base.specs.SignedWord.{inv, copies, comm}
+use Rattle.pq_base.specs.Presentation.{Presentation, IsPresentation, IsLaterSide, IsRelatorOf, letter, power_side, commutator_side, power_word, commutator_word}
+use Rattle.pq_base.specs.Presentation.IsRelatorOf.{power_relator, commutator_relator}
+use Rattle.pq_base.specs.Table.{AllBelow, Table, IsGroup, HasTableClass, times, inverse, power, commutator, value}
 use Rattle.pq_base.specs.Table.NextElement.{no_element, times_commutator, times_power}
 
 pub differ : true ≡ false → ⊥
@@ -143,3 +145,23 @@ tested_presentation P h = record {
       (at-below j (λ k. is_later_side P j (commutator_side P j k))
       (at-below P.rank (λ l. passes_below l (λ k. is_later_side P l (commutator_side P l k))) h.commutator_sides j hj) i hi);
 }
+
+-- relators whose values are all 0
+abbrev pub are_power_values_neutral : Table → List ℕ → Presentation → Bool
+are_power_values_neutral T f P =
+    passes_below P.rank (λ i. eqb (value T f (copies (letter i) P.prime ++ inv (power_word P i))) 0)
+
+abbrev pub are_commutator_values_neutral : Table → List ℕ → Presentation → Bool
+are_commutator_values_neutral T f P =
+    passes_below P.rank (λ j. passes_below j (λ i. eqb (value T f (comm (letter j) (letter i) ++ inv (commutator_word P j i))) 0))
+
+pub tested_relators : (T : Table) (f : List ℕ) (P : Presentation) → are_power_values_neutral T f P ≡ true
+    → are_commutator_values_neutral T f P ≡ true → (r : List ℤ) → IsRelatorOf P r → value T f r ≡ 0
+tested_relators T f P hp hc r (power_relator i hi) =
+    eqb-true (value T f (copies (letter i) P.prime ++ inv (power_word P i))) 0
+    (at-below P.rank (λ k. eqb (value T f (copies (letter k) P.prime ++ inv (power_word P k))) 0) hp i hi)
+tested_relators T f P hp hc r (commutator_relator j i hj hi) =
+    eqb-true (value T f (comm (letter j) (letter i) ++ inv (commutator_word P j i))) 0
+    (at-below j (λ k. eqb (value T f (comm (letter j) (letter k) ++ inv (commutator_word P j k))) 0)
+    (at-below P.rank (λ l. passes_below l (λ k. eqb (value T f (comm (letter l) (letter k) ++ inv (commutator_word P l k))) 0)) hc j hj)
+    i hi)

@@ -14,6 +14,9 @@ pub mod KilledRelators
 pub mod OrderTwo
 pub mod LargestOfOrderTwo
 pub mod DihedralTable
+pub mod Rewriting
+pub mod ConsistentTests
+pub mod ConsistentPresentations
 pub mod OrderOfFreeGenerator
 pub mod WantOrders
 pub mod CanonicalTests

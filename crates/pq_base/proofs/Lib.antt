@@ -3,8 +3,15 @@ pub mod WordLaws
 pub mod LetterLaws
 pub mod ChainLaws
 pub mod JoinedLaws
+pub mod RangeLaws
 pub mod Groups
+pub mod GroupSolver
+pub mod GroupIdentities
+pub mod GroupLevels
+pub mod GroupMaps
 pub mod WordGroup
 pub mod TableLaws
 pub mod TableGroup
-pub mod RangeLaws
+pub mod SeriesLaws
+pub mod TableSeries
+pub mod CarryLaws

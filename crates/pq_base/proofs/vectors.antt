@@ -17,6 +17,8 @@ pub mod DihedralTable
 pub mod Rewriting
 pub mod ConsistentTests
 pub mod ConsistentPresentations
+pub mod ClassTests
+pub mod DihedralClasses
 pub mod OrderOfFreeGenerator
 pub mod WantOrders
 pub mod CanonicalTests

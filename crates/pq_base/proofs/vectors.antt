@@ -19,6 +19,7 @@ pub mod ConsistentTests
 pub mod ConsistentPresentations
 pub mod ClassTests
 pub mod DihedralClasses
+pub mod LargestOfOrderEight
 pub mod OrderOfFreeGenerator
 pub mod WantOrders
 pub mod CanonicalTests

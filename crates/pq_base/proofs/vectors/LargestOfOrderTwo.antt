@@ -7,11 +7,11 @@ use Rattle.pq_base.specs.Table.NextElement.{no_element, times_power}
 use Rattle.pq_base.specs.Presentation.{IsRelatorOf}
 use Rattle.pq_base.specs.Presentation.IsRelatorOf.{power_relator, commutator_relator}
 use Rattle.pq_base.specs.Joined.Chain.{done}
-use Rattle.pq_base.specs.Answer.{image_words}
-use Rattle.pq_base.specs.Largest.{IsGenerated, IsUniversal, IsLargest}
+use Rattle.pq_base.specs.Answer.{Answer, image_words}
+use Rattle.pq_base.specs.Largest.{IsGenerated, Factors, FactorsOnce, IsUniversal, IsLargest}
 use Rattle.pq_base.proofs.TableLaws.{get_or-below}
 use Rattle.pq_base.proofs.vectors.Tests.{unequal}
-use Rattle.pq_base.proofs.vectors.Tables.{cycle_of_four, cycle_of_four_is_group}
+use Rattle.pq_base.proofs.vectors.Tables.{two_elements, cycle_of_four, cycle_of_four_is_group}
 use Rattle.pq_base.proofs.vectors.CycleOfFour.{cycle_of_four_has_class_two}
 use Rattle.pq_base.proofs.vectors.Presentations.{order_two}
 use Rattle.pq_base.proofs.vectors.LargestQuotients.{killed_generator, free_generator, no-relator}
@@ -96,3 +96,30 @@ order_two_is_not_universal_at_class_two u =
     let same : a ≡ 1 = sym (cycle_of_four_is_group.neutral_right a below) ∙ kept in
     let two = ap (λ (m : ℕ). times cycle_of_four m (times cycle_of_four a 0)) same ∙ ap (times cycle_of_four 1) kept in
     unequal 2 0 refl (sym two ∙ square)
+
+-- elements that do not keep the images
+pub neutral_does_not_factor : Factors two_elements (1 ∷ []) answer_of_order_two (0 ∷ []) → ⊥
+neutral_does_not_factor h = unequal 0 1 refl (h.images 0 (lit< tt))
+
+-- an element at which the relator has not value 0
+pub fourth_root_does_not_factor : Factors cycle_of_four (1 ∷ []) answer_of_order_two (1 ∷ []) → ⊥
+fourth_root_does_not_factor h = unequal 2 0 refl (h.relators (pos 1 ∷ pos 1 ∷ []) (power_relator 0 (lit< tt)))
+
+-- without images every element of order two serves, so that more than one list does
+abbrev pub without_images : Answer
+without_images = record answer_of_order_two { names = []; images = [] }
+
+pub each_factors_without_images : (x : ℕ) → x < 2 → times two_elements x (times two_elements x 0) ≡ 0
+    → Factors two_elements [] without_images (x ∷ [])
+each_factors_without_images x below square = record {
+  count = refl;
+  elements = (below, tt);
+  relators = relators-killed two_elements (x ∷ []) square;
+  images = λ i h. absurd (omega (arith, h));
+}
+
+pub without_images_is_not_once : FactorsOnce two_elements [] without_images → ⊥
+without_images_is_not_once h =
+    let zeroth = h.only (0 ∷ []) (each_factors_without_images 0 (lit< tt) refl) in
+    let first = h.only (1 ∷ []) (each_factors_without_images 1 (lit< tt) refl) in
+    unequal 0 1 refl (ap (λ (l : List ℕ). get_or l 0 0) (zeroth ∙ sym first))

@@ -8,16 +8,17 @@ use Rattle.pq_base.specs.Table.{InLevel, AllBelow, times, element_of, value}
 use Rattle.pq_base.specs.Table.NextElement.{no_element, times_commutator, times_power}
 use Rattle.pq_base.specs.Presentation.{IsNormal, normal_word}
 use Rattle.pq_base.specs.Presentation.IsRelatorOf.{power_relator}
-use Rattle.pq_base.specs.Joined.{Joined, Reaches, IsConsistent}
-use Rattle.pq_base.specs.Joined.Chain.{done}
+use Rattle.pq_base.specs.Joined.{IsTrivial, Move, Joined, Reaches, IsConsistent}
+use Rattle.pq_base.specs.Joined.Chain.{done, step}
 use Rattle.pq_base.specs.Series.{NextWord, InSeries, HasClass}
 use Rattle.pq_base.specs.Series.NextWord.{no_word, then_commutator, then_power}
 use Rattle.pq_base.specs.Largest.{Kills, IsGenerated}
+use Rattle.pq_base.proofs.ChainLaws.{chain-trivial}
 use Rattle.pq_base.proofs.JoinedLaws.{joined-trans, joined-append_left, relator-joined, pair-joined}
 use Rattle.pq_base.proofs.TableLaws.{value-below}
 use Rattle.pq_base.proofs.TableGroup.{value-append, value-comm, value-copies, value-joined}
 use Rattle.pq_base.proofs.vectors.Tests.{unequal}
-use Rattle.pq_base.proofs.vectors.Tables.{two_elements, two_elements_are_group, two_elements_have_class_one}
+use Rattle.pq_base.proofs.vectors.Tables.{two_elements, two_elements_are_group, two_elements_have_class_one, one_not_in_level_one}
 use Rattle.pq_base.proofs.vectors.Presentations.{order_two, relator_of_order_two}
 use Rattle.pq_base.proofs.vectors.JoinedWords.{inverse_joined_in_order_two}
 use Rattle.pq_base.proofs.vectors.LargestQuotients.{killed_generator}
@@ -42,6 +43,13 @@ letter_is_not_joined_to_empty c = unequal 1 0 refl (parity-joined c)
 
 pub letter_reaches_not_zero : Reaches order_two (pos 1 ∷ []) (0 ∷ []) → ⊥
 letter_reaches_not_zero r = letter_is_not_joined_to_empty r.joined
+
+-- a1 alone is no trivial word, and no move leads from it to the empty word
+pub letter_is_not_trivial : IsTrivial order_two (pos 1 ∷ []) → ⊥
+letter_is_not_trivial t = letter_is_not_joined_to_empty (chain-trivial (pos 1 ∷ []) t)
+
+pub no_move_to_empty : Move (IsTrivial order_two) (pos 1 ∷ []) [] → ⊥
+no_move_to_empty m = letter_is_not_joined_to_empty (step m done)
 
 normal-parity : (e : List ℕ) → IsNormal 2 1 e → e ≡ parity (normal_word e) ∷ []
 normal-parity [] h = absurd (unequal 0 1 refl h.count)
@@ -92,6 +100,9 @@ parity-next (then_power u w hu hw) =
     ∙ ap (λ (x : ℕ). times two_elements x (parity w)) (value-copies two_elements two_elements_are_group (1 ∷ []) one-below u 2) in
     subst (λ (x : ℕ). InLevel two_elements 2 1 x) (sym e)
     (times_power (parity u) (parity w) (parity-below u) (parity-next hw))
+
+pub letter_is_no_product : NextWord order_two (HasLetters 1) (pos 1 ∷ []) → ⊥
+letter_is_no_product n = one_not_in_level_one (parity-next n)
 
 pub order_two_has_class_one : HasClass order_two 1
 order_two_has_class_one w h =

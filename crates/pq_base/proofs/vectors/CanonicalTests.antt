@@ -4,7 +4,7 @@ use Rattle.pq_base.specs.Presentation.{power_side, commutator_side}
 use Rattle.pq_base.specs.Answer.{Answer, Definition, weight_at, definition_at}
 use Rattle.pq_base.specs.Answer.Definition.{image, commutator, power}
 use Rattle.pq_base.specs.Canonical.{same_definition, new_part, new_count, rank_up_to, DefinesNone, ObeysWeights}
-use Rattle.pq_base.proofs.vectors.Tests.{differ, both, passes_below, at-below}
+use Rattle.pq_base.proofs.vectors.Tests.{not-true, differ, both, passes_below, at-below}
 
 pub same-definition_refl : (d : Definition) → same_definition d d ≡ true
 same-definition_refl (image i) = eq-eqb i i refl
@@ -31,10 +31,6 @@ zero-from (suc n) (x ∷ xs) h (suc g) l = zero-from n xs h g (omega (arith, l))
 pub record PassesNone (A : Answer) (k met : ℕ) (d : Definition) : Type 0 where
   pub none_defined : passes_below (new_count A k) (λ g. not (same_definition (definition_at A (rank_up_to A k + g)) d)) ≡ true
   pub met_alone : are_zero_from met (new_part A k d) ≡ true
-
-not-true : (b : Bool) → not b ≡ true → b ≡ false
-not-true true h = sym h
-not-true false h = refl
 
 pub tested_none : (A : Answer) (k met : ℕ) (d : Definition) → PassesNone A k met d → DefinesNone A k met d
 tested_none A k met d h = record {

@@ -1,13 +1,13 @@
 -- A closed presentation is consistent where the rules bring each letter before a normal word to a normal word, and where
 -- a table tells the normal words apart.
-use Rattle.std.proofs.Common.{◌≡◌, ◌&&◌, ℕ, zero, suc, pred, ℤ, pos, negsuc, Bool, true, false, eqb, List, [], ◌∷◌, length, refl, sym, ap, ◌∙◌, subst, arith, eqb-true}
+use Rattle.std.proofs.Common.{◌≡◌, ◌&&◌, ℕ, zero, suc, pred, ℤ, pos, negsuc, Bool, true, false, List, [], ◌∷◌, length, refl, sym, ap, ◌∙◌, subst, arith}
 use Rattle.pq_base.specs.SignedWord.{IsLetter, HasLetters}
 use Rattle.pq_base.specs.Table.{Table, IsGroup, AllBelow, value}
 use Rattle.pq_base.specs.Presentation.{Presentation, IsNormal, normal_word}
 use Rattle.pq_base.specs.Joined.{Joined, Reaches, IsConsistent}
 use Rattle.pq_base.proofs.JoinedLaws.{joined-trans, joined-append_left, joined-from_equal}
 use Rattle.pq_base.proofs.TableGroup.{value-joined}
-use Rattle.pq_base.proofs.vectors.Tests.{differ, both, passes_below, at-below, are_below, tested_below, tested_relators, are_power_values_neutral, are_commutator_values_neutral}
+use Rattle.pq_base.proofs.vectors.Tests.{same_list, same_list-true, differ, both, passes_below, at-below, are_below, tested_below, tested_relators, are_power_values_neutral, are_commutator_values_neutral}
 use Rattle.pq_base.proofs.vectors.Rewriting.{same_letter, same_letter-true, reduce, reduce-joined, all_rules, all-rules-joined}
 
 -- the test passes at each list of n numbers below p
@@ -52,19 +52,6 @@ same_word-true (k ∷ u) (l ∷ w) h =
     ap (λ (m : ℤ). m ∷ u) (same_letter-true k l parts.0) ∙ ap (λ (v : List ℤ). l ∷ v) (same_word-true u w parts.1)
 same_word-true [] (l ∷ w) h = absurd (differ (sym h))
 same_word-true (k ∷ u) [] h = absurd (differ (sym h))
-
-abbrev pub same_list : List ℕ → List ℕ → Bool
-same_list [] [] = true
-same_list (x ∷ xs) (y ∷ ys) = eqb x y && same_list xs ys
-same_list _ _ = false
-
-same_list-true : (xs ys : List ℕ) → same_list xs ys ≡ true → xs ≡ ys
-same_list-true [] [] h = refl
-same_list-true (x ∷ xs) (y ∷ ys) h =
-    let parts = both (eqb x y) (same_list xs ys) h in
-    ap (λ (m : ℕ). m ∷ xs) (eqb-true x y parts.0) ∙ ap (λ (v : List ℕ). y ∷ v) (same_list-true xs ys parts.1)
-same_list-true [] (y ∷ ys) h = absurd (differ (sym h))
-same_list-true (x ∷ xs) [] h = absurd (differ (sym h))
 
 module _ (P : Presentation) (passes : ℕ) where
   abbrev pub reduced : ℤ → List ℕ → List ℤ

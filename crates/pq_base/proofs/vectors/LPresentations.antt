@@ -1,11 +1,11 @@
 -- L-presentations: words along endomorphisms, relators and words that are none, and the two parts.
-use Rattle.std.proofs.Common.{◌≡◌, ◌≢◌, ◌⊎◌, ℕ, zero, suc, ℤ, pos, negsuc, List, [], ◌∷◌, get_or, refl, ap, inl, inr, lit<, arith}
+use Rattle.std.proofs.Common.{◌≡◌, ◌⊎◌, ℕ, zero, suc, ℤ, pos, negsuc, List, [], ◌∷◌, refl, ap, inl, inr, lit<, arith}
 use Rattle.pq_base.specs.SignedWord.{sub}
 use Rattle.pq_base.specs.LPresentation.{LPresentation, along, AreEndoNumbers, IsRelator, part, Obeys, AreDistinct, IsLPresentation}
 use Rattle.pq_base.specs.LPresentation.IsRelator.{fixed_relator, iterated_relator}
 use Rattle.pq_base.specs.LPresentation.Part.{whole, iterated_part}
 use Rattle.pq_base.specs.Table.{value}
-use Rattle.pq_base.proofs.vectors.Tests.{unequal}
+use Rattle.pq_base.proofs.vectors.Tests.{unequal, tested_distinct}
 use Rattle.pq_base.proofs.vectors.Tables.{two_elements, cycle_of_four}
 
 -- the names x and y
@@ -108,15 +108,8 @@ iterated_part_of_lamplighter = refl
 pub iterated_part_keeps_the_rest : (part lamplighter iterated_part).iterated ≡ lamplighter.iterated
 iterated_part_keeps_the_rest = refl
 
--- two names that differ
-pub are_two_distinct : (a b : List ℕ) → a ≢ b → AreDistinct (a ∷ b ∷ [])
-are_two_distinct a b ne zero zero less below = absurd (omega (arith, less))
-are_two_distinct a b ne zero (suc zero) less below = ne
-are_two_distinct a b ne zero (suc (suc j)) less below = absurd (omega (arith, below))
-are_two_distinct a b ne (suc i) j less below = absurd (omega (arith, less, below))
-
 pub are_x_and_y_distinct : AreDistinct x_and_y
-are_x_and_y_distinct = are_two_distinct (120 ∷ []) (121 ∷ []) (λ e. unequal 120 121 refl (ap (λ (l : List ℕ). get_or l 0 0) e))
+are_x_and_y_distinct = tested_distinct x_and_y refl
 
 pub dihedral_is_l_presentation : IsLPresentation dihedral
 dihedral_is_l_presentation = record {
@@ -132,6 +125,17 @@ swapped_is_l_presentation = record {
   fixed_words = tt;
   iterated_words = ((lit< tt, (lit< tt, tt)), tt);
   endo_words = (refl, ((lit< tt, tt), ((lit< tt, tt), tt)), tt);
+}
+
+pub lamplighter_is_l_presentation : IsLPresentation lamplighter
+lamplighter_is_l_presentation = record {
+  distinct = tested_distinct lamplighter.names refl;
+  fixed_words = ((lit< tt, (lit< tt, tt)), tt);
+  iterated_words = (
+    (lit< tt, (lit< tt, tt)),
+    ((lit< tt, (lit< tt, (lit< tt, (lit< tt, (lit< tt, (lit< tt, (lit< tt, (lit< tt, tt)))))))), tt),
+  );
+  endo_words = (refl, ((lit< tt, tt), ((lit< tt, tt), ((lit< tt, (lit< tt, tt)), tt))), tt);
 }
 
 -- one name twice

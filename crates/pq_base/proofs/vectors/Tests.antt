@@ -1,8 +1,9 @@
 -- A test that computes settles a fact on all numbers below a bound. So a closed table or answer is judged by `refl`.
-use Rattle.std.proofs.Common.{◌≡◌, ◌<◌, ◌+◌, ℕ, zero, suc, Bool, true, false, ◌&&◌, T, eqb, ltb, List, [], ◌∷◌, ◌++◌, ℤ, length, get_or, refl, sym, ap, ◌∙◌, subst, inl, inr, eq-or-lt_of_le, le_of_suc-le-suc, arith, eqb-true, eq-eqb, ltb-true}
+use Rattle.std.proofs.Common.{◌≡◌, ◌<◌, ◌+◌, ℕ, zero, suc, Bool, true, false, ◌&&◌, not, T, eqb, ltb, List, [], ◌∷◌, ◌++◌, ℤ, length, get_or, refl, sym, ap, ◌∙◌, subst, inl, inr, eq-or-lt_of_le, le_of_suc-le-suc, arith, eqb-true, eq-eqb, ltb-true}
 use Rattle.pq_base.specs.SignedWord.{inv, copies, comm}
 use Rattle.pq_base.specs.Presentation.{Presentation, IsPresentation, IsLaterSide, IsRelatorOf, letter, power_side, commutator_side, power_word, commutator_word}
 use Rattle.pq_base.specs.Presentation.IsRelatorOf.{power_relator, commutator_relator}
+use Rattle.pq_base.specs.LPresentation.{AreDistinct}
 use Rattle.pq_base.specs.Table.{AllBelow, Table, IsGroup, HasTableClass, times, inverse, power, commutator, value}
 use Rattle.pq_base.specs.Table.NextElement.{no_element, times_commutator, times_power}
 
@@ -165,3 +166,35 @@ tested_relators T f P hp hc r (commutator_relator j i hj hi) =
     (at-below j (λ k. eqb (value T f (comm (letter j) (letter k) ++ inv (commutator_word P j k))) 0)
     (at-below P.rank (λ l. passes_below l (λ k. eqb (value T f (comm (letter l) (letter k) ++ inv (commutator_word P l k))) 0)) hc j hj)
     i hi)
+
+abbrev pub same_list : List ℕ → List ℕ → Bool
+same_list [] [] = true
+same_list (x ∷ xs) (y ∷ ys) = eqb x y && same_list xs ys
+same_list _ _ = false
+
+pub same_list-true : (xs ys : List ℕ) → same_list xs ys ≡ true → xs ≡ ys
+same_list-true [] [] h = refl
+same_list-true (x ∷ xs) (y ∷ ys) h =
+    let parts = both (eqb x y) (same_list xs ys) h in
+    ap (λ (m : ℕ). m ∷ xs) (eqb-true x y parts.0) ∙ ap (λ (v : List ℕ). y ∷ v) (same_list-true xs ys parts.1)
+same_list-true [] (y ∷ ys) h = absurd (differ (sym h))
+same_list-true (x ∷ xs) [] h = absurd (differ (sym h))
+
+same_list-refl : (xs : List ℕ) → same_list xs xs ≡ true
+same_list-refl [] = refl
+same_list-refl (x ∷ xs) = ap (λ (b : Bool). b && same_list xs xs) (eq-eqb x x refl) ∙ same_list-refl xs
+
+pub not-true : (b : Bool) → not b ≡ true → b ≡ false
+not-true true h = sym h
+not-true false h = refl
+
+-- names that all differ
+abbrev pub are_distinct : List (List ℕ) → Bool
+are_distinct names = passes_below (length names) (λ j. passes_below j (λ i. not (same_list (get_or names i []) (get_or names j []))))
+
+pub tested_distinct : (names : List (List ℕ)) → are_distinct names ≡ true → AreDistinct names
+tested_distinct names h i j less below same =
+    differ (sym (ap (same_list (get_or names i [])) (sym same) ∙ same_list-refl (get_or names i []))
+    ∙ not-true (same_list (get_or names i []) (get_or names j []))
+    (at-below j (λ k. not (same_list (get_or names k []) (get_or names j [])))
+    (at-below (length names) (λ l. passes_below l (λ k. not (same_list (get_or names k []) (get_or names l [])))) h j below) i less))

@@ -13,6 +13,7 @@ use Rattle.pq_base.proofs.CarryLaws.{level-value}
 use Rattle.pq_base.proofs.vectors.Tests.{differ, passes_below, at-below, at-both, tested_relators}
 use Rattle.pq_base.proofs.vectors.ConsistentTests.{PassesConsistent, joined-to_value}
 
+-- the test of an implication
 abbrev pub implies : Bool → Bool → Bool
 implies true b = b
 implies false b = true
@@ -39,6 +40,7 @@ module _ (T : Table) (g : IsGroup T) (p : ℕ) (before after : ℕ → Bool) (h 
       (at-both T.size T.size (λ x y. implies (after x && after y) (after (times T x y))) h.products a b ha hb)
       (and-true (after a) (after b) ea eb)
 
+  -- what passes holds of each element of the next level
   pub tested_level : (k : ℕ) → ((x : ℕ) → InLevel T p k x → before x ≡ true) → (x : ℕ) → InLevel T p (suc k) x → after x ≡ true
   tested_level k low x no_element = h.zeroth
   tested_level k low x (times_commutator u v y hu hv hy) =

@@ -12,6 +12,7 @@ use Rattle.pq_base.proofs.vectors.ConsistentTests.{PassesConsistent, tested_cons
 abbrev pub three_bits : ℕ → List ℕ
 three_bits n = n / 4 ∷ (n / 2) % 2 ∷ n % 2 ∷ []
 
+-- the table of eight elements tells the eight normal words apart
 pub order_eight_passes : PassesConsistent dihedral_of_order_eight 8 eight_elements generators three_bits
 order_eight_passes = record {
   prime = refl;
@@ -24,6 +25,7 @@ order_eight_passes = record {
   told = refl;
 }
 
+-- eight normal words are eight elements
 pub order_eight_is_consistent : IsConsistent dihedral_of_order_eight
 order_eight_is_consistent = tested_consistent order_eight_passes
 
@@ -42,6 +44,7 @@ eight_quaternions = record {
       ∷ [];
 }
 
+-- it is a group
 pub eight_quaternions_are_group : IsGroup eight_quaternions
 eight_quaternions_are_group = tested_group eight_quaternions (record {
   nonempty = refl;
@@ -53,6 +56,7 @@ eight_quaternions_are_group = tested_group eight_quaternions (record {
   inverses = refl;
 })
 
+-- the table of quaternions tells the eight normal words apart
 pub quaternion_passes : PassesConsistent quaternion 8 eight_quaternions (4 ∷ 2 ∷ 1 ∷ []) three_bits
 quaternion_passes = record {
   prime = refl;
@@ -65,6 +69,7 @@ quaternion_passes = record {
   told = refl;
 }
 
+-- so they are eight elements
 pub quaternion_is_consistent : IsConsistent quaternion
 quaternion_is_consistent = tested_consistent quaternion_passes
 
@@ -84,6 +89,7 @@ nine_elements = record {
       ∷ [];
 }
 
+-- it is a group
 pub nine_elements_are_group : IsGroup nine_elements
 nine_elements_are_group = tested_group nine_elements (record {
   nonempty = refl;
@@ -95,9 +101,11 @@ nine_elements_are_group = tested_group nine_elements (record {
   inverses = refl;
 })
 
+-- 3 e + f as e, f
 abbrev pub two_digits : ℕ → List ℕ
 two_digits n = n / 3 ∷ n % 3 ∷ []
 
+-- the table of nine elements tells the nine normal words apart
 pub cycle_of_nine_passes : PassesConsistent cycle_of_nine 8 nine_elements (3 ∷ 1 ∷ []) two_digits
 cycle_of_nine_passes = record {
   prime = refl;
@@ -110,6 +118,7 @@ cycle_of_nine_passes = record {
   told = refl;
 }
 
+-- so they are nine elements
 pub cycle_of_nine_is_consistent : IsConsistent cycle_of_nine
 cycle_of_nine_is_consistent = tested_consistent cycle_of_nine_passes
 
@@ -136,6 +145,7 @@ sixteen_elements = record {
       ∷ [];
 }
 
+-- it is a group
 pub sixteen_elements_are_group : IsGroup sixteen_elements
 sixteen_elements_are_group = tested_group sixteen_elements (record {
   nonempty = refl;
@@ -147,9 +157,11 @@ sixteen_elements_are_group = tested_group sixteen_elements (record {
   inverses = refl;
 })
 
+-- 8 e + 4 f + 2 g + h as e, f, g, h
 abbrev pub four_bits : ℕ → List ℕ
 four_bits n = n / 8 ∷ (n / 4) % 2 ∷ (n / 2) % 2 ∷ n % 2 ∷ []
 
+-- the table of sixteen elements tells the sixteen normal words apart
 pub order_sixteen_passes : PassesConsistent dihedral_of_order_sixteen 8 sixteen_elements (8 ∷ 4 ∷ 2 ∷ 1 ∷ []) four_bits
 order_sixteen_passes = record {
   prime = refl;
@@ -162,5 +174,6 @@ order_sixteen_passes = record {
   told = refl;
 }
 
+-- so they are sixteen elements
 pub order_sixteen_is_consistent : IsConsistent dihedral_of_order_sixteen
 order_sixteen_is_consistent = tested_consistent order_sixteen_passes

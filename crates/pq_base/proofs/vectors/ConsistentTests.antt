@@ -15,6 +15,7 @@ abbrev pub passes_lists : ℕ → ℕ → (List ℕ → Bool) → Bool
 passes_lists p zero t = t []
 passes_lists p (suc n) t = passes_below p (λ x. passes_lists p n (λ e. t (x ∷ e)))
 
+-- so it holds of each normal list
 pub at-list : (p n : ℕ) (t : List ℕ → Bool) → passes_lists p n t ≡ true → (e : List ℕ) → IsNormal p n e → t e ≡ true
 at-list p zero t h [] e = h
 at-list p zero t h (x ∷ xs) e = absurd (omega (arith, e.count))
@@ -23,6 +24,7 @@ at-list p (suc n) t h (x ∷ xs) e =
     at-list p n (λ ys. t (x ∷ ys)) (at-below p (λ y. passes_lists p n (λ ys. t (y ∷ ys))) h x e.below.0) xs
     (record { count = omega (arith, e.count); below = e.below.1 })
 
+-- one more where the test passes
 abbrev pub one_if : Bool → ℕ → ℕ
 one_if true n = suc n
 one_if false n = n
@@ -32,6 +34,7 @@ abbrev pub count_letter : ℕ → List ℤ → ℕ
 count_letter i [] = 0
 count_letter i (k ∷ w) = one_if (same_letter (pos (suc i)) k) (count_letter i w)
 
+-- how often each of n generators from i + 1 on stands in a word
 abbrev pub counts : ℕ → ℕ → List ℤ → List ℕ
 counts i zero w = []
 counts i (suc n) w = count_letter i w ∷ counts (suc i) n w
@@ -40,6 +43,7 @@ length-counts : (i n : ℕ) (w : List ℤ) → length (counts i n w) ≡ n
 length-counts i zero w = refl
 length-counts i (suc n) w = ap suc (length-counts (suc i) n w)
 
+-- the test of equal words
 abbrev pub same_word : List ℤ → List ℤ → Bool
 same_word [] [] = true
 same_word (k ∷ u) (l ∷ w) = same_letter k l && same_word u w
@@ -54,15 +58,19 @@ same_word-true [] (l ∷ w) h = absurd (differ (sym h))
 same_word-true (k ∷ u) [] h = absurd (differ (sym h))
 
 module _ (P : Presentation) (passes : ℕ) where
+  -- what the rules make of a letter before a normal word
   abbrev pub reduced : ℤ → List ℕ → List ℤ
   reduced k e = reduce passes (all_rules P) (k ∷ normal_word e)
 
+  -- its letters counted
   abbrev pub found : ℤ → List ℕ → List ℕ
   found k e = counts 0 P.rank (reduced k e)
 
+  -- it is a normal word
   abbrev pub is_reached : ℤ → List ℕ → Bool
   is_reached k e = same_word (reduced k e) (normal_word (found k e)) && are_below P.prime (found k e)
 
+  -- each letter and each inverse before each normal word
   abbrev pub are_reached : Bool
   are_reached = passes_below P.rank (λ i. passes_lists P.prime P.rank (λ e. is_reached (pos (suc i)) e && is_reached (negsuc i) e))
 
@@ -123,17 +131,20 @@ pub record PassesConsistent (P : Presentation) (passes : ℕ) (T : Table) (f : L
   pub commutators : are_commutator_values_neutral T f P ≡ true
   pub told : passes_lists P.prime P.rank (λ e. same_list (exponents (value T f (normal_word e))) e) ≡ true
 
+-- the value of a normal word is read as its exponents
 pub read_back : {P : Presentation} {passes : ℕ} {T : Table} {f : List ℕ} {exponents : ℕ → List ℕ} → PassesConsistent P passes T f exponents
     → (e : List ℕ) → IsNormal P.prime P.rank e → exponents (value T f (normal_word e)) ≡ e
 read_back {P} {passes} {T} {f} {exponents} h e n =
     same_list-true (exponents (value T f (normal_word e))) e
     (at-list P.prime P.rank (λ x. same_list (exponents (value T f (normal_word x))) x) h.told e n)
 
+-- joined words have equal values
 pub values_joined : {P : Presentation} {passes : ℕ} {T : Table} {f : List ℕ} {exponents : ℕ → List ℕ} → PassesConsistent P passes T f exponents
     → {u v : List ℤ} → Joined P u v → value T f u ≡ value T f v
 values_joined {P} {passes} {T} {f} h c =
     value-joined T h.group f h.elements P (tested_relators T f P h.powers h.commutators) c
 
+-- a presentation that passes is consistent
 pub tested_consistent : {P : Presentation} {passes : ℕ} {T : Table} {f : List ℕ} {exponents : ℕ → List ℕ} → PassesConsistent P passes T f exponents
     → IsConsistent P
 tested_consistent {P} {passes} {T} {f} {exponents} h = record {

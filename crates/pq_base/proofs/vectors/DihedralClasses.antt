@@ -17,12 +17,14 @@ level_one_of_eight =
     tested_level eight_elements eight_elements_are_group 2 (λ _. true) (λ x. ltb x 2)
     (record { zeroth = refl; products = refl; commutators = refl; powers = refl }) 0 (λ x h. refl)
 
+-- level 2 has 0 alone
 pub eight_elements_have_class_two : HasTableClass eight_elements 2 2
 eight_elements_have_class_two =
     class_from_level eight_elements 2 2
     (tested_level eight_elements eight_elements_are_group 2 (λ x. ltb x 2) (λ x. eqb x 0)
     (record { zeroth = refl; products = refl; commutators = refl; powers = refl }) 1 level_one_of_eight)
 
+-- so has the presentation
 pub order_eight_has_class_two : HasClass dihedral_of_order_eight 2
 order_eight_has_class_two = class_from_table order_eight_passes 2 eight_elements_have_class_two refl
 
@@ -37,12 +39,14 @@ level_two_of_sixteen =
     tested_level sixteen_elements sixteen_elements_are_group 2 (λ x. ltb x 4) (λ x. ltb x 2)
     (record { zeroth = refl; products = refl; commutators = refl; powers = refl }) 1 level_one_of_sixteen
 
+-- level 3 has 0 alone
 pub sixteen_elements_have_class_three : HasTableClass sixteen_elements 2 3
 sixteen_elements_have_class_three =
     class_from_level sixteen_elements 2 3
     (tested_level sixteen_elements sixteen_elements_are_group 2 (λ x. ltb x 2) (λ x. eqb x 0)
     (record { zeroth = refl; products = refl; commutators = refl; powers = refl }) 2 level_two_of_sixteen)
 
+-- so has the presentation
 pub order_sixteen_has_class_three : HasClass dihedral_of_order_sixteen 3
 order_sixteen_has_class_three = class_from_table order_sixteen_passes 3 sixteen_elements_have_class_three refl
 
@@ -59,5 +63,6 @@ fourth_in_level_two =
     (commutator-joined dihedral_of_order_sixteen 2 0 (lit< tt) (lit< tt)) (lit< tt, tt)
     (series-comm dihedral_of_order_sixteen 1 (pos 3 ∷ []) (pos 1 ∷ []) third_in_level_one (lit< tt, tt))
 
+-- a4 is in level 2, and not trivial
 pub order_sixteen_has_not_class_two : HasClass dihedral_of_order_sixteen 2 → ⊥
 order_sixteen_has_not_class_two h = unequal 1 0 refl (values_joined order_sixteen_passes (h (pos 4 ∷ []) fourth_in_level_two))

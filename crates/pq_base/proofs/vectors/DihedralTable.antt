@@ -16,6 +16,7 @@ use Rattle.pq_base.proofs.vectors.Presentations.{dihedral_of_order_eight}
 use Rattle.pq_base.proofs.vectors.JoinedWords.{commutator_joined_in_order_eight}
 use Rattle.pq_base.proofs.vectors.Answers.{answer_of_order_eight}
 
+-- row by row
 abbrev pub eight_elements : Table
 eight_elements = record {
   size = 8;
@@ -30,6 +31,7 @@ eight_elements = record {
       ∷ [];
 }
 
+-- it is a group
 pub eight_elements_are_group : IsGroup eight_elements
 eight_elements_are_group = tested_group eight_elements (record {
   nonempty = refl;
@@ -45,16 +47,20 @@ eight_elements_are_group = tested_group eight_elements (record {
 abbrev pub generators : List ℕ
 generators = 4 ∷ 2 ∷ 1 ∷ []
 
+-- they are elements
 pub generators_below : AllBelow 8 generators
 generators_below = (lit< tt, (lit< tt, (lit< tt, tt)))
 
+-- the squares, and [a2,a1] a3⁻¹, [a3,a1], [a3,a2]
 pub relators_have_value_zero : (r : List ℤ) → IsRelatorOf dihedral_of_order_eight r → value eight_elements generators r ≡ 0
 relators_have_value_zero = tested_relators eight_elements generators dihedral_of_order_eight refl refl
 
+-- so joined words have equal values
 pub values_of_joined : {u v : List ℤ} → Joined dihedral_of_order_eight u v → value eight_elements generators u ≡ value eight_elements generators v
 values_of_joined c =
     value-joined eight_elements eight_elements_are_group generators generators_below dihedral_of_order_eight relators_have_value_zero c
 
+-- a3 has the value 1
 pub third_generator_is_not_trivial : Joined dihedral_of_order_eight (pos 3 ∷ []) [] → ⊥
 third_generator_is_not_trivial c = unequal 1 0 refl (values_of_joined c)
 
@@ -67,6 +73,7 @@ third_generator_in_series = record {
   joined = commutator_joined_in_order_eight;
 }
 
+-- so level 1 is not trivial
 pub order_eight_has_not_class_one : HasClass dihedral_of_order_eight 1 → ⊥
 order_eight_has_not_class_one h = third_generator_is_not_trivial (h (pos 3 ∷ []) third_generator_in_series)
 

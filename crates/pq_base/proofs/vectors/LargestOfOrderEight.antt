@@ -118,6 +118,7 @@ module _ (T : Table) (g : IsGroup T) (class : HasTableClass T 2 2) (f : List ℕ
         ∙ ap (λ (x : ℕ). get_or f 0 0 ∷ x ∷ get_or h 2 0 ∷ []) (same T g f h fits 1 (lit< tt))
         ∙ ap (λ (x : ℕ). get_or f 0 0 ∷ get_or f 1 0 ∷ x ∷ []) same-third
 
+  -- so the map factors exactly once
   pub factors-once : FactorsOnce T f answer_of_order_eight
   factors-once = record {
     through = through;
@@ -125,6 +126,7 @@ module _ (T : Table) (g : IsGroup T) (class : HasTableClass T 2 2) (f : List ℕ
     only = only;
   }
 
+-- both squares are fixed relators
 pub order_eight_is_largest : IsLargest dihedral 2 2 answer_of_order_eight
 order_eight_is_largest = record {
   answer = order_eight_is_answer;
@@ -139,6 +141,7 @@ order_eight_is_largest = record {
       (o.kills (pos 1 ∷ pos 1 ∷ []) (fixed_relator 0 (lit< tt))) (o.kills (pos 2 ∷ pos 2 ∷ []) (fixed_relator 1 (lit< tt)));
 }
 
+-- one square is an iterated relator, and the other its image
 pub order_eight_is_largest_of_iterated : IsLargest swapped_iterated 2 2 answer_of_order_eight
 order_eight_is_largest_of_iterated = record {
   answer = order_eight_is_answer;
@@ -167,6 +170,7 @@ long_commutator_is_trivial =
     reduce-joined dihedral_of_order_eight 8 (all_rules dihedral_of_order_eight) (all-rules-joined dihedral_of_order_eight refl)
     (comm swapped_commutator (pos 1 ∷ []))
 
+-- so the map does not factor through the group of order eight
 pub order_eight_is_not_universal_at_class_three : IsUniversal dihedral 2 3 answer_of_order_eight → ⊥
 order_eight_is_not_universal_at_class_three u =
     let once = u sixteen_elements (8 ∷ 4 ∷ []) sixteen_elements_are_group sixteen_elements_have_class_three order_sixteen_obeys in

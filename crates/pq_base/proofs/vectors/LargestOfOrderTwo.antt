@@ -18,6 +18,7 @@ use Rattle.pq_base.proofs.vectors.LargestQuotients.{killed_generator, free_gener
 use Rattle.pq_base.proofs.vectors.Answers.{answer_of_order_two, order_two_is_answer}
 use Rattle.pq_base.proofs.vectors.OrderTwo.{order_two_is_consistent, order_two_has_class_one, order_two_kills_not}
 
+-- a1 is the image of x
 pub order_two_is_generated : IsGenerated answer_of_order_two
 order_two_is_generated zero h = done
 order_two_is_generated (suc k) h = absurd (omega (arith, h))
@@ -44,6 +45,7 @@ images-kept : (T : Table) (f : List ℕ) → times T (get_or f 0 0) 0 ≡ get_or
 images-kept T f e zero h = e
 images-kept T f e (suc i) h = absurd (omega (arith, h))
 
+-- each element of a group of class 1 is an image of a1
 pub order_two_is_universal : IsUniversal free_generator 2 1 answer_of_order_two
 order_two_is_universal T f g c o =
     let below = get_or-below T.size f 0 g.nonempty o.elements in
@@ -61,6 +63,7 @@ order_two_is_universal T f g c o =
           ∙ sym (one-entry T f o.count);
     }
 
+-- the free group of rank 1 at class 1
 pub order_two_is_largest : IsLargest free_generator 2 1 answer_of_order_two
 order_two_is_largest = record {
   answer = order_two_is_answer;
@@ -74,12 +77,15 @@ order_two_is_largest = record {
   universal = order_two_is_universal;
 }
 
+-- where x is a relator it is not: x is not killed
 pub order_two_is_not_largest_of_killed : IsLargest killed_generator 2 1 answer_of_order_two → ⊥
 order_two_is_not_largest_of_killed h = order_two_kills_not h.kills
 
+-- at class 0 it is not: its class is 1
 pub order_two_is_not_largest_of_class_zero : IsLargest free_generator 2 0 answer_of_order_two → ⊥
 order_two_is_not_largest_of_class_zero h = omega (arith, h.class_limit)
 
+-- at the prime 3 it is not
 pub order_two_is_not_largest_at_three : IsLargest free_generator 3 1 answer_of_order_two → ⊥
 order_two_is_not_largest_at_three h = unequal 2 3 refl h.prime
 
@@ -109,6 +115,7 @@ fourth_root_does_not_factor h = unequal 2 0 refl (h.relators (pos 1 ∷ pos 1 �
 abbrev pub without_images : Answer
 without_images = record answer_of_order_two { names = []; images = [] }
 
+-- 0 and 1 both do
 pub each_factors_without_images : (x : ℕ) → x < 2 → times two_elements x (times two_elements x 0) ≡ 0
     → Factors two_elements [] without_images (x ∷ [])
 each_factors_without_images x below square = record {
@@ -118,6 +125,7 @@ each_factors_without_images x below square = record {
   images = λ i h. absurd (omega (arith, h));
 }
 
+-- so no list is the only one
 pub without_images_is_not_once : FactorsOnce two_elements [] without_images → ⊥
 without_images_is_not_once h =
     let zeroth = h.only (0 ∷ []) (each_factors_without_images 0 (lit< tt) refl) in

@@ -19,6 +19,7 @@ three_letters = record {
       ∷ [];
 }
 
+-- it is a group
 pub three_letters_are_group : IsGroup three_letters
 three_letters_are_group = tested_group three_letters (record {
   nonempty = refl;
@@ -30,9 +31,11 @@ three_letters_are_group = tested_group three_letters (record {
   inverses = refl;
 })
 
+-- the other cycle
 pub inverse_of_cycle : inverse three_letters 1 ≡ 2
 inverse_of_cycle = refl
 
+-- the cycle has order three
 pub cube_of_cycle : power three_letters 1 3 ≡ 0
 cube_of_cycle = refl
 
@@ -40,6 +43,7 @@ cube_of_cycle = refl
 pub commutator_of_cycle : commutator three_letters 1 3 ≡ 1
 commutator_of_cycle = refl
 
+-- the other way round it is the inverse
 pub commutator_of_transposition : commutator three_letters 3 1 ≡ 2
 commutator_of_transposition = refl
 
@@ -47,9 +51,11 @@ commutator_of_transposition = refl
 pub value_of_commutator : value three_letters (1 ∷ 3 ∷ []) (comm (pos 2 ∷ []) (pos 1 ∷ [])) ≡ 2
 value_of_commutator = refl
 
+-- the cycle is a commutator of itself with the transposition
 pub cycle_in_each_level : (c : ℕ) → InLevel three_letters 2 c 1
 cycle_in_each_level zero = lit< tt
 cycle_in_each_level (suc c) = times_commutator 1 3 0 (cycle_in_each_level c) (lit< tt) no_element
 
+-- so no level is trivial
 pub three_letters_have_no_class : (c : ℕ) → HasTableClass three_letters 2 c → ⊥
 three_letters_have_no_class c h = unequal 1 0 refl (h 1 (cycle_in_each_level c))

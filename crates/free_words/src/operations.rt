@@ -1,4 +1,5 @@
-//! Products, inverses, powers, commutators and conjugates of words.
+//! Products, inverses, powers, commutators and conjugates of words. Where the word would have more than 65,536 letters
+//! it is refused as `TooLong` with its length, before memory is taken for it.
 
 ghost use Rattle.std.specs.Prelude.{◌≡◌, ◌++◌, IfOk, OnOk};
 ghost use Rattle.pq_base.specs.SignedWord.{inv, pow, comm, conj};

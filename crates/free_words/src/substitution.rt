@@ -10,7 +10,8 @@ use crate::refusal::WordRefusal;
 use crate::word::{Word, room_for};
 use std::alloc::{AllocError, Global};
 
-/// The word with each generator replaced by its image, the first image for generator 1.
+/// The word with each generator replaced by its image, the first image for generator 1. Above 65,536 letters it is
+/// refused as `TooLong` with its length, before memory is taken for it.
 pub fn substitute(alloc: Global, w: &Word, images: &[Word]) -> Result<Word, WordRefusal>
     requires { HasLetters (length images.now) w.now }
     ensures { Gives result (sub w.now images.now) }

@@ -28,7 +28,8 @@ impl Model for Word {
 }
 
 impl Word {
-    /// The word of these letters, of which none is 0 or `i32::MIN`.
+    /// The word of these letters, of which none is 0 or `i32::MIN`. More than 65,536 of them are refused as `TooLong` with
+    /// their number.
     pub fn of(alloc: Global, letters: &[i32]) -> Result<Word, WordRefusal>
         requires { AreLetters letters.now }
         ensures { Gives result letters.now }

@@ -3,7 +3,7 @@ use Rattle.std.proofs.Common.{◌≡◌, ◌^◌, ◌<◌, ℕ, zero, suc, List,
 use Rattle.std.specs.Str.Parse.{ParsesUnsigned, IsNumeral, digits_value, without_leading_plus}
 use Rattle.std.specs.Result.{OkIff}
 use Rattle.std.proofs.lemmas.Str.Parse.{without_leading_plus_none, numerals_by_value, tells_digits}
-use Rattle.std.proofs.lemmas.Fmt.{parse-decimal, decimal-digits_value, first_decimal, decimal_digit}
+use Rattle.std.proofs.lemmas.Fmt.{parse-decimal, decimal-digits_value, first_decimal, decimal_digit, decimal_injective}
 use Rattle.pq_run.specs.Number.{BeginsCanonically}
 
 pub canonical_parsed : {E : Type 0} (text : List ℕ) (n : ℕ) (r : Result ℕ E) → BeginsCanonically text → r ≡ Ok n → ParsesUnsigned 32 10 text r → text ≡ decimal n
@@ -31,3 +31,6 @@ canonical_refused {E} text r e is parsed n small spelled =
   where
     differ : Err e ≡ Ok n → ⊥
     differ h = cc
+
+pub same_number : (text : List ℕ) (m n : ℕ) → m < 2 ^ 32 → n < 2 ^ 32 → text ≡ decimal n → text ≡ decimal m → m ≡ n
+same_number text m n small_m small_n at_n at_m = decimal_injective m n (omega arith) (omega arith) (sym at_m ∙ at_n)

@@ -1,7 +1,9 @@
 //! The top of the engine: the words of a command, and the call that reads a presentation and writes its answer.
 #![tactic(auto)]
 
+mod command;
 mod number;
 mod words;
 
+pub use command::{Command, parse_words};
 pub use words::Words;

@@ -5,6 +5,7 @@ ghost use Rattle.pq_run.specs.Number.{BeginsCanonically};
 /// The number that a text spells in its one canonical way, where there is one below 2^32.
 pub fn canonical_number(text: &str) -> Option<u32>
     ensures some { IfSome result (λ n. text.now ≡ decimal n) }
+    ensures only { IfSome result (λ n. (m : ℕ) → m < 2 ^ 32 → text.now ≡ decimal m → m ≡ n) }
     ensures none { IfNone result ((n : ℕ) → n < 2 ^ 32 → text.now ≡ decimal n → ⊥) }
 {
     if !begins_canonically(text.as_bytes()) {

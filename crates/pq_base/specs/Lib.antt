@@ -7,3 +7,6 @@ pub mod Series
 pub mod Answer
 pub mod Largest
 pub mod Canonical
+pub mod Prime
+pub mod Name
+pub mod Status

@@ -3,6 +3,17 @@
 //! an answer the largest quotient. `laws` states what is proved of these definitions alone.
 #![tactic(auto)]
 
-/// Nothing could be allocated.
-#[derive(Clone, Copy, Debug, PartialEq, Eq)]
-pub struct NoMemory;
+pub mod limits;
+pub mod name;
+pub mod path;
+pub mod prime;
+pub mod refusal;
+pub mod status;
+#[cfg(test)]
+mod tests;
+
+pub use name::Name;
+pub use path::Path;
+pub use prime::Prime;
+pub use refusal::NoMemory;
+pub use status::Status;

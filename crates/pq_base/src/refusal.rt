@@ -1,0 +1,21 @@
+//! The one refusal that any call which takes memory can give.
+
+use std::alloc::{AllocError, AllocFailed};
+use thiserror::Error;
+
+/// Nothing could be allocated.
+#[derive(Clone, Copy, Debug, PartialEq, Eq, Error)]
+#[error("no memory")]
+pub struct NoMemory;
+
+impl From<AllocError> for NoMemory {
+    fn from(_refused: AllocError) -> NoMemory {
+        NoMemory
+    }
+}
+
+impl<T: Drop> From<AllocFailed<T>> for NoMemory {
+    fn from(_refused: AllocFailed<T>) -> NoMemory {
+        NoMemory
+    }
+}

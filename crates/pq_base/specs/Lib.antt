@@ -10,3 +10,5 @@ pub mod Canonical
 pub mod Prime
 pub mod Name
 pub mod Status
+pub mod Elementary
+pub mod ClassOne

@@ -2,3 +2,4 @@ pub mod Number
 pub mod Command
 pub mod AnswerText
 pub mod Output
+pub mod ClassOneText

@@ -1,6 +1,7 @@
 //! The top of the engine: the words of a command, and the call that reads a presentation and writes its answer.
 #![tactic(auto)]
 
+mod class_one;
 mod command;
 mod number;
 mod words;

@@ -8,6 +8,7 @@ use Rattle.pq_base.specs.Presentation.IsRelatorOf.{power_relator, commutator_rel
 use Rattle.pq_base.specs.Joined.{IsTrivial, Joined}
 use Rattle.pq_base.specs.Joined.IsTrivial.{pair, relator}
 use Rattle.pq_base.specs.Joined.Chain.{done}
+use Rattle.pq_base.specs.Laws.{JoinedWordsAreACongruence}
 use Rattle.pq_base.proofs.WordLaws.{inv-inv}
 use Rattle.pq_base.proofs.ChainLaws.{IsWordEquivalence, chain-sym, chain-trans, chain-append_left, chain-append_right, chain-append, chain-trivial, chain-induction}
 
@@ -145,3 +146,14 @@ commutator-joined P j i l m =
 pub letter-swap-joined : (P : Presentation) (j i : ℕ) → j < P.rank → i < j
     → Joined P (letter j ++ letter i) (letter i ++ (letter j ++ commutator_word P j i))
 letter-swap-joined P j i l m = append-swap-from_comm (letter j) (letter i) (commutator-joined P j i l m)
+
+pub joined_words_are_a_congruence : JoinedWordsAreACongruence
+joined_words_are_a_congruence P = record {
+  reflexive = joined-refl P;
+  symmetric = λ u v c. joined-sym c;
+  transitive = λ u v w c d. joined-trans c d;
+  products = λ u v x y c d. joined-append c d;
+  inverses = λ u v c. joined-inv c;
+  relators = λ r h. relator-joined P h;
+  pairs = pair-joined P;
+}

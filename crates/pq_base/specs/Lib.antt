@@ -7,6 +7,7 @@ pub mod Series
 pub mod Answer
 pub mod Largest
 pub mod Canonical
+pub mod Laws
 pub mod Prime
 pub mod Name
 pub mod Status

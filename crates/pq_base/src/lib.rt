@@ -3,6 +3,8 @@
 //! an answer the largest quotient. `laws` states what is proved of these definitions alone.
 #![tactic(auto)]
 
+pub mod class_one;
+pub mod laws;
 pub mod limits;
 pub mod name;
 pub mod path;

@@ -1,0 +1,40 @@
+-- What is proved of the definitions alone. Each statement is the contract of a function of `laws`.
+-- From: the elementary theory of groups given by generators and relators.
+use Rattle.std.specs.Prelude.{◌≡◌, ◌↔◌, ℕ, ℤ, neg_ℤ, List, [], ◌∷◌, ◌++◌}
+use Rattle.pq_base.specs.SignedWord.{inv, sub, HasLetters}
+use Rattle.pq_base.specs.Table.{Table, IsGroup, AllBelow, value}
+use Rattle.pq_base.specs.Presentation.{Presentation, IsPresentation, IsRelatorOf}
+use Rattle.pq_base.specs.Joined.{IsTrivial, Move, Joined}
+
+-- joined words are an equivalence that concatenation and inverses keep, in which relators and cancelling pairs are empty
+pub record JoinedIsCongruence (P : Presentation) : Type 0 where
+  pub reflexive : (u : List ℤ) → Joined P u u
+  pub symmetric : (u v : List ℤ) → Joined P u v → Joined P v u
+  pub transitive : (u v w : List ℤ) → Joined P u v → Joined P v w → Joined P u w
+  pub products : (u v x y : List ℤ) → Joined P u v → Joined P x y → Joined P (u ++ x) (v ++ y)
+  pub inverses : (u v : List ℤ) → Joined P u v → Joined P (inv u) (inv v)
+  pub relators : (r : List ℤ) → IsRelatorOf P r → Joined P r []
+  pub pairs : (k : ℤ) → Joined P (k ∷ neg_ℤ k ∷ []) []
+
+abbrev pub JoinedWordsAreACongruence : Type 0
+JoinedWordsAreACongruence = (P : Presentation) → JoinedIsCongruence P
+
+-- images that carry the relators of P to words joined to the empty word in Q carry joined words to joined words
+abbrev pub SubstitutionsCarryJoinedWords : Type 0
+SubstitutionsCarryJoinedWords = (P Q : Presentation) (f : List (List ℤ)) → ((r : List ℤ) → IsRelatorOf P r → Joined Q (sub r f) [])
+    → (u v : List ℤ) → Joined P u v → Joined Q (sub u f) (sub v f)
+
+-- elements of a group table at which each relator has value 0 give joined words equal values
+abbrev pub JoinedWordsHaveEqualValues : Type 0
+JoinedWordsHaveEqualValues = (P : Presentation) (T : Table) (f : List ℕ) → IsGroup T → AllBelow T.size f
+    → ((r : List ℤ) → IsRelatorOf P r → value T f r ≡ 0) → (u v : List ℤ) → Joined P u v → value T f u ≡ value T f v
+
+-- a chain each word of which is over n generators
+pub data ChainWithin (n : ℕ) (E : List ℤ → Type 0) : List ℤ → List ℤ → Type 0 where
+  stop : {u : List ℤ} → HasLetters n u → ChainWithin n E u u
+  move : {u v w : List ℤ} → HasLetters n u → Move E u v → ChainWithin n E v w → ChainWithin n E u w
+
+-- words over the generators of a presentation are joined exactly where a chain of such words leads from one to the other
+abbrev pub JoinedWordsNeedNoOtherLetters : Type 0
+JoinedWordsNeedNoOtherLetters = (P : Presentation) → IsPresentation P → (u v : List ℤ) → HasLetters P.rank u → HasLetters P.rank v
+    → Joined P u v ↔ ChainWithin P.rank (IsTrivial P) u v

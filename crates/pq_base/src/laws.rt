@@ -1,0 +1,31 @@
+//! Laws of the definitions: each function does nothing, and its clause is a theorem.
+
+ghost use Rattle.pq_base.specs.Laws.{JoinedWordsAreACongruence, JoinedWordsHaveEqualValues, JoinedWordsNeedNoOtherLetters, SubstitutionsCarryJoinedWords};
+
+/// Joined words are a congruence: an equivalence that concatenation and inversion respect, in which each relator and each
+/// cancelling pair is joined to the empty word. So the words of a presentation stand for the elements of a group.
+#[tactic(auto, using(crate::proofs::JoinedLaws::joined_words_are_a_congruence))]
+pub fn joined_words_are_a_congruence()
+    ensures { JoinedWordsAreACongruence }
+{}
+
+/// Von Dyck's theorem for words: where the images of the generators kill the relators of one presentation in another, the
+/// substitution of the images carries joined words to joined words.
+#[tactic(auto, using(crate::proofs::WordGroup::substitutions_carry_joined_words))]
+pub fn substitutions_carry_joined_words()
+    ensures { SubstitutionsCarryJoinedWords }
+{}
+
+/// Von Dyck's theorem for finite groups: where elements of a group table give each relator the value 0, joined words have
+/// equal values.
+#[tactic(auto, using(crate::proofs::TableGroup::joined_words_have_equal_values))]
+pub fn joined_words_have_equal_values()
+    ensures { JoinedWordsHaveEqualValues }
+{}
+
+/// Chains need no letters but those of the presentation: words over its generators are joined exactly where a chain of
+/// words over its generators leads from the one to the other.
+#[tactic(auto, using(crate::proofs::RangeLaws::joined_words_need_no_other_letters))]
+pub fn joined_words_need_no_other_letters()
+    ensures { JoinedWordsNeedNoOtherLetters }
+{}

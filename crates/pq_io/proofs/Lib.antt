@@ -1,0 +1,5 @@
+pub mod FaultLemmas
+pub mod ReadingLemmas
+pub mod WritingLemmas
+mod Offers
+mod Keeping

@@ -4,6 +4,7 @@
 mod class_one;
 mod command;
 mod number;
+mod relators;
 mod words;
 
 pub use command::{Command, parse_words};

@@ -1,5 +1,5 @@
 -- A count that rose since some moment rose since each earlier moment too.
-use Rattle.std.proofs.Common.{◌<◌, ◌≤◌, ◌⊎◌, ◌-◌, ◌^◌, ℕ, inl, inr, arith}
+use Rattle.std.proofs.Common.{◌≤◌, ℕ, inl, inr, arith}
 use native.Mathlib.Decide.{dec_lt}
 use Rattle.pq_io.specs.Faults.{Rose}
 

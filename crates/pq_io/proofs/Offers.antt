@@ -1,5 +1,5 @@
 -- While a sink is offered bytes, what it gained and what is still to be offered are these bytes.
-use Rattle.std.proofs.Common.{◌≡◌, ◌+◌, ◌<◌, ◌≤◌, ℕ, List, [], ◌++◌, length, take, drop, Option, IsNone, refl, sym, ◌∙◌, ap, subst, arith, append_assoc, length-append, take-append-drop}
+use Rattle.std.proofs.Common.{◌≡◌, ◌<◌, ℕ, List, [], ◌++◌, length, take, drop, Option, IsNone, refl, sym, ◌∙◌, ap, subst, arith, append_assoc, length-append, take-append-drop}
 use Rattle.std.proofs.lemmas.List.{append-nil, take_at}
 use Rattle.pq_io.specs.Writing.{Gains, GainsProperPrefix}
 use Rattle.pq_io.proofs.WritingLemmas.{Gains-nil, Gains-append}

@@ -3,3 +3,4 @@ pub mod Command
 pub mod AnswerText
 pub mod Output
 pub mod ClassOneText
+pub mod Refusals

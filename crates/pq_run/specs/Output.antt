@@ -1,11 +1,12 @@
 -- What a command writes for what it reads. A row that isn't built has no case.
 -- From: this project's own commands.
-use Rattle.std.specs.Prelude.{◌≡◌, ℕ, List}
+use Rattle.std.specs.Prelude.{◌≡◌, ℕ, List, [], Option, Some, IfSome}
 use Rattle.pq_base.specs.Prime.{prime_value}
 use Rattle.pq_base.specs.LPresentation.{LPresentation}
 use Rattle.pq_base.specs.Answer.{Answer}
 use Rattle.pq_base.specs.Largest.{IsLargest}
 use Rattle.lpres_reader.specs.Reads.{Reads}
+use Rattle.pq_io.specs.Writing.{Gains, GainsProperPrefix}
 use Rattle.pq_run.specs.declared.command.Command.{Command}
 use Rattle.pq_run.specs.declared.command.Command.TheVariants.{Quotient, Json, Certify, Check, Sample}
 use Rattle.pq_run.specs.Command.{CommandWords}
@@ -31,3 +32,11 @@ pub record Output (words : List (List ℕ)) (bytes written : List ℕ) : Type 0 
   pub command : Command
   pub spelled : CommandWords words command
   pub output : OutputOf command bytes written
+
+-- what was left in the source is read to its end, and its output was added to what the sink has taken
+abbrev pub WritesOutput : List (List ℕ) → Option (List ℕ) → Option (List ℕ) → Option (List ℕ) → Option (List ℕ) → Type 0
+WritesOutput words left rest taken then = IfSome left (λ bytes. (rest ≡ Some []) × ((written : List ℕ) × Output words bytes written × Gains taken then written))
+
+-- the same, but for a last part of the output
+abbrev pub WritesPart : List (List ℕ) → Option (List ℕ) → Option (List ℕ) → Option (List ℕ) → Option (List ℕ) → Type 0
+WritesPart words left rest taken then = IfSome left (λ bytes. (rest ≡ Some []) × ((written : List ℕ) × Output words bytes written × GainsProperPrefix taken then written))

@@ -4,8 +4,10 @@
 mod class_one;
 mod command;
 mod number;
+mod refusal;
 mod relators;
 mod words;
 
 pub use command::{Command, parse_words};
+pub use refusal::Refusal;
 pub use words::Words;

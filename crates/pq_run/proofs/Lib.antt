@@ -1,3 +1,5 @@
 pub mod Numbers
 pub mod ClassOneLines
 pub mod Flags
+pub mod Commands
+pub mod EndsLaws

@@ -4,3 +4,4 @@ pub mod AnswerText
 pub mod Output
 pub mod ClassOneText
 pub mod Refusals
+pub mod Ends

@@ -33,10 +33,14 @@ pub record Output (words : List (List ℕ)) (bytes written : List ℕ) : Type 0 
   pub spelled : CommandWords words command
   pub output : OutputOf command bytes written
 
+-- what was left in the source, where it tells, is read to its end, and meets a condition
+abbrev pub IsReadBy : Option (List ℕ) → Option (List ℕ) → (List ℕ → Type 0) → Type 0
+IsReadBy left rest P = IfSome left (λ bytes. (rest ≡ Some []) × P bytes)
+
 -- what was left in the source is read to its end, and its output was added to what the sink has taken
 abbrev pub WritesOutput : List (List ℕ) → Option (List ℕ) → Option (List ℕ) → Option (List ℕ) → Option (List ℕ) → Type 0
-WritesOutput words left rest taken then = IfSome left (λ bytes. (rest ≡ Some []) × ((written : List ℕ) × Output words bytes written × Gains taken then written))
+WritesOutput words left rest taken then = IsReadBy left rest (λ bytes. (written : List ℕ) × Output words bytes written × Gains taken then written)
 
 -- the same, but for a last part of the output
 abbrev pub WritesPart : List (List ℕ) → Option (List ℕ) → Option (List ℕ) → Option (List ℕ) → Option (List ℕ) → Type 0
-WritesPart words left rest taken then = IfSome left (λ bytes. (rest ≡ Some []) × ((written : List ℕ) × Output words bytes written × GainsProperPrefix taken then written))
+WritesPart words left rest taken then = IsReadBy left rest (λ bytes. (written : List ℕ) × Output words bytes written × GainsProperPrefix taken then written)

@@ -74,6 +74,15 @@ byte_limit = 4194304
 abbrev pub IsUnbuiltInput : List ℕ → Type 0
 IsUnbuiltInput bytes = (byte_limit < length bytes) ⊎ (¬ IsNarrow bytes)
 
+-- what it takes for a text to be refused so
+abbrev pub IsTextCause : List ℕ → Refusal → Type 0
+IsTextCause bytes Words = ⊥
+IsTextCause bytes UnbuiltCommand = ⊥
+IsTextCause bytes UnbuiltClass = ⊥
+IsTextCause bytes UnbuiltInput = ¬ IsNarrow bytes
+IsTextCause bytes ReadFault = ⊥
+IsTextCause bytes NoMemory = Unit {0}
+
 -- what it takes for the input to be refused so: what was left in the source, and its count of faults before and after
 abbrev pub IsInputCause : Option (List ℕ) → ℕ → ℕ → Refusal → Type 0
 IsInputCause left before after Words = ⊥

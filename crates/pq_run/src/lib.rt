@@ -3,11 +3,14 @@
 
 mod class_one;
 mod command;
+mod input;
 mod number;
 mod refusal;
 mod relators;
+mod top;
 mod words;
 
 pub use command::{Command, parse_words};
 pub use refusal::Refusal;
+pub use top::run;
 pub use words::Words;

@@ -14,3 +14,6 @@ pub use command::{Command, parse_words};
 pub use refusal::Refusal;
 pub use top::run;
 pub use words::Words;
+
+#[cfg(test)]
+mod tests;

@@ -5,3 +5,4 @@ pub mod Items
 pub mod Limits
 pub mod Reads
 pub mod Narrow
+pub mod Front

@@ -1,6 +1,8 @@
 //! Reads L-presentations from text.
 #![tactic(auto)]
 
+mod token;
+
 /// Why a text was not read.
 #[derive(Clone, Copy, Debug, PartialEq, Eq)]
 pub enum ReadRefusal {

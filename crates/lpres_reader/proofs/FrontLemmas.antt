@@ -1,6 +1,6 @@
 -- A line is a list of tokens exactly where its front is the first of them and what is behind it is the others. So a
 -- line is at most one list of tokens.
-use Rattle.std.proofs.Common.{◌≡◌, ℕ, zero, suc, ◌+◌, Bool, true, false, cond, eqb, List, [], ◌∷◌, ◌++◌, length, take, drop, refl, sym, ap, subst, ◌∙◌, arith, Option, Some, None}
+use Rattle.std.proofs.Common.{◌≡◌, ℕ, suc, ◌+◌, Bool, true, false, cond, eqb, List, [], ◌∷◌, ◌++◌, length, take, drop, refl, sym, ap, subst, ◌∙◌, arith, Option, Some}
 use Rattle.std.specs.List.{list_all, prefix_len, AllByRecursion}
 use Rattle.std.specs.Char.{is_ascii_digit}
 use Rattle.std.proofs.lemmas.Bool.{and_parts, and_from, or_left, cond-true, cond-false, cond_both, false_from_ne_true, eqb-true}
@@ -10,7 +10,7 @@ use Rattle.pq_base.specs.Name.{is_letter, is_name_byte, IsNameText}
 use Rattle.lpres_reader.specs.declared.token.Symbol.{Symbol}
 use Rattle.lpres_reader.specs.declared.token.Symbol.TheVariants.{Arrow, Star, Caret, Minus, Equals, Comma, OpenRound, CloseRound, OpenSquare, CloseSquare}
 use Rattle.lpres_reader.specs.Lines.{is_blank}
-use Rattle.lpres_reader.specs.Tokens.{Token, name, number, symbol, symbol_bytes, is_number_text, IsNumberText, StopsBefore, ReadsTokens, no_more, blank_first, name_first, number_first, symbol_first}
+use Rattle.lpres_reader.specs.Tokens.{Token, name, number, symbol, symbol_bytes, IsNumberText, StopsBefore, ReadsTokens, no_more, blank_first, name_first, number_first, symbol_first}
 use Rattle.lpres_reader.specs.Front.{Front, line_end, no_token, token_first, symbols, symbol_among, symbol_of, front_at_symbol, front_at_minus, front_at_run, front_at, front_of}
 
 -- the line with this front is these tokens

@@ -6,3 +6,4 @@ pub mod Limits
 pub mod Reads
 pub mod Narrow
 pub mod Front
+pub mod Left

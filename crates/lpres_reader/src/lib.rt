@@ -1,6 +1,7 @@
 //! Reads L-presentations from text.
 #![tactic(auto)]
 
+mod line;
 mod token;
 
 /// Why a text was not read.

@@ -1,0 +1,4 @@
+pub mod WordLaws
+pub mod LetterLaws
+pub mod ChainLaws
+pub mod JoinedLaws

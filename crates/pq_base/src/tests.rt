@@ -15,7 +15,7 @@ fn residues_of_seven(rt: HostRuntime) {
 #[test]
 fn names(rt: HostRuntime) {
     let name = Name::of(b"x_1").unwrap();
-    assert_eq!(rt; name.bytes(), b"x_1");
+    assert_eq!(rt; name.bytes(), b"x_1".as_slice());
     assert!(rt; Name::of(b"1x").is_none());
     assert!(rt; is_letter(b'q'));
     assert!(rt; is_name_byte(b'0'));
@@ -26,7 +26,7 @@ fn names(rt: HostRuntime) {
 #[test]
 fn a_path_with_ample_memory(rt: HostRuntime) -> Result<(), NoMemory> {
     let path = Path::of(rt.alloc(), &[2, 1])?;
-    assert_eq!(rt; path.numbers(), &[2, 1]);
+    assert_eq!(rt; path.numbers(), [2, 1].as_slice());
     Ok(())
 }
 

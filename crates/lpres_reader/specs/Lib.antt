@@ -7,3 +7,5 @@ pub mod Reads
 pub mod Narrow
 pub mod Front
 pub mod Left
+pub mod Presentations
+pub mod Refusals

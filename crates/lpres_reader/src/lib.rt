@@ -1,12 +1,11 @@
-//! Reads L-presentations from text.
+//! Reads L-presentations from text. What a text means is a relation in `specs/`, and a text is read exactly where it
+//! means a presentation and has the form that is built.
 #![tactic(auto)]
 
 mod line;
+mod presentation;
+mod refusal;
 mod token;
 
-/// Why a text was not read.
-#[derive(Clone, Copy, Debug, PartialEq, Eq)]
-pub enum ReadRefusal {
-    NotBuilt,
-    NoMemory,
-}
+pub use presentation::LPres;
+pub use refusal::ReadRefusal;

@@ -1,11 +1,11 @@
 -- A line is a list of tokens exactly where its front is the first of them and what is behind it is the others. So a
 -- line is at most one list of tokens.
-use Rattle.std.proofs.Common.{◌≡◌, ℕ, suc, ◌+◌, Bool, true, false, cond, eqb, List, [], ◌∷◌, ◌++◌, length, take, drop, refl, sym, ap, subst, ◌∙◌, arith, Option, Some}
+use Rattle.std.proofs.Common.{◌≡◌, ℕ, suc, ◌+◌, ◌-◌, ◌<◌, Bool, true, false, cond, eqb, List, [], ◌∷◌, ◌++◌, length, take, drop, refl, sym, ap, subst, ◌∙◌, arith, Option, Some, None}
 use Rattle.std.specs.List.{list_all, prefix_len, AllByRecursion}
 use Rattle.std.specs.Char.{is_ascii_digit}
 use Rattle.std.proofs.lemmas.Bool.{and_parts, and_from, or_left, cond-true, cond-false, cond_both, false_from_ne_true, eqb-true}
 use Rattle.std.proofs.lemmas.Bool.Decides.{nat_tests}
-use Rattle.std.proofs.lemmas.List.{take_at, drop_at, take-append-drop}
+use Rattle.std.proofs.lemmas.List.{take_at, drop_at, take-append-drop, length-drop}
 use Rattle.pq_base.specs.Name.{is_letter, is_name_byte, IsNameText}
 use Rattle.lpres_reader.specs.declared.token.Symbol.{Symbol}
 use Rattle.lpres_reader.specs.declared.token.Symbol.TheVariants.{Arrow, Star, Caret, Minus, Equals, Comma, OpenRound, CloseRound, OpenSquare, CloseSquare}
@@ -33,7 +33,7 @@ list_all-prefix test (b ∷ line) =
     let Good : ℕ → Type 0 = λ n. list_all test (take n (b ∷ line)) ≡ true in
     cond_both (test b) (1 + prefix_len test line) 0 Good
     (λ e. let one : suc (prefix_len test line) ≡ 1 + prefix_len test line = omega arith in
-        subst Good one (and_from (test b) _ e (list_all-prefix test line)))
+    subst Good one (and_from (test b) _ e (list_all-prefix test line)))
     (λ e. refl)
 
 pub StopsBefore-prefix : (test : ℕ → Bool) (line : List ℕ) → StopsBefore test (drop (prefix_len test line) line)
@@ -42,7 +42,7 @@ StopsBefore-prefix test (b ∷ line) =
     let Good : ℕ → Type 0 = λ n. StopsBefore test (drop n (b ∷ line)) in
     cond_both (test b) (1 + prefix_len test line) 0 Good
     (λ e. let one : suc (prefix_len test line) ≡ 1 + prefix_len test line = omega arith in
-        subst Good one (StopsBefore-prefix test line))
+    subst Good one (StopsBefore-prefix test line))
     (λ e. e)
 
 -- what a byte is, it is alone
@@ -136,7 +136,7 @@ tells_symbol b rest ts (s ∷ table) all =
     let Good : Option Symbol → Type 0 = λ o. Tells (b ∷ rest) ts (front_at_symbol o rest) in
     cond_both (eqb b s.0) (Some s.1) (symbol_among table b) Good
     (λ e f. let bytes : b ∷ rest ≡ symbol_bytes s.1 ++ rest = ap (λ (c : ℕ). c ∷ rest) (eqb-true b s.0 e) ∙ ap (λ (t : List ℕ). t ++ rest) (sym all.0) in
-        subst (ReadsTokens (b ∷ rest)) (sym f.1) (symbol_first s.1 rest bytes f.2))
+    subst (ReadsTokens (b ∷ rest)) (sym f.1) (symbol_first s.1 rest bytes f.2))
     (λ _. tells_symbol b rest ts table all.1)
 
 tells_minus : (rest : List ℕ) (ts : List Token) → Tells (45 ∷ rest) ts (front_at_minus rest)
@@ -157,10 +157,10 @@ tells_at b rest ts =
     cond_both (is_letter b) (front_at_run name is_name_byte line) at_digit (Tells line ts)
     (λ e f. subst (ReadsTokens line) (sym f.1) (name_first (take letters line) (drop letters line) (sym (take-append-drop letters line)) (name_text b rest e) (StopsBefore-prefix is_name_byte line) f.2))
     (λ _. cond_both (is_ascii_digit b) (front_at_run number is_ascii_digit line) at_minus (Tells line ts)
-        (λ e f. subst (ReadsTokens line) (sym f.1) (number_first (take digits line) (drop digits line) (sym (take-append-drop digits line)) (number_text b rest e) (StopsBefore-prefix is_ascii_digit line) f.2))
-        (λ _. cond_both (eqb b 45) (front_at_minus rest) at_symbol (Tells line ts)
-            (λ e. subst (λ (c : ℕ). Tells (c ∷ rest) ts (front_at_minus rest)) (sym (eqb-true b 45 e)) (tells_minus rest ts))
-            (λ _. tells_symbol b rest ts symbols (refl, (refl, (refl, (refl, (refl, (refl, (refl, (refl, tt)))))))))))
+    (λ e f. subst (ReadsTokens line) (sym f.1) (number_first (take digits line) (drop digits line) (sym (take-append-drop digits line)) (number_text b rest e) (StopsBefore-prefix is_ascii_digit line) f.2))
+    (λ _. cond_both (eqb b 45) (front_at_minus rest) at_symbol (Tells line ts)
+    (λ e. subst (λ (c : ℕ). Tells (c ∷ rest) ts (front_at_minus rest)) (sym (eqb-true b 45 e)) (tells_minus rest ts))
+    (λ _. tells_symbol b rest ts symbols (refl, (refl, (refl, (refl, (refl, (refl, (refl, (refl, tt)))))))))))
 
 -- what follows the front of a line is its tokens
 pub tells : (line : List ℕ) (ts : List Token) → Follows (front_of line) ts → ReadsTokens line ts
@@ -188,3 +188,53 @@ goes_on_alike (token_first s rest) t ts us alike e f =
 pub tokens_unique : (ts us : List Token) (line : List ℕ) → ReadsTokens line ts → ReadsTokens line us → ts ≡ us
 tokens_unique [] us line d e = ends_alike (front_of line) us (follows d) (follows e)
 tokens_unique (t ∷ ts) us line d e = goes_on_alike (front_of line) t ts us (λ rest vs. tokens_unique ts vs rest) (follows d) (follows e)
+
+-- what is behind a token is shorter
+abbrev pub IsShorter : ℕ → Front → Type 0
+IsShorter n line_end = Unit {0}
+IsShorter n no_token = Unit {0}
+IsShorter n (token_first t rest) = length rest < n
+
+shorter_than_more : (f : Front) (n : ℕ) → IsShorter n f → IsShorter (suc n) f
+shorter_than_more line_end n h = tt
+shorter_than_more no_token n h = tt
+shorter_than_more (token_first t rest) n h = omega arith
+
+shorter_symbol : (o : Option Symbol) (rest : List ℕ) → IsShorter (suc (length rest)) (front_at_symbol o rest)
+shorter_symbol None rest = tt
+shorter_symbol (Some s) rest = omega arith
+
+shorter_minus : (rest : List ℕ) → IsShorter (suc (length rest)) (front_at_minus rest)
+shorter_minus [] = omega arith
+shorter_minus (b ∷ rest) = cond_both (eqb b 62) (token_first (symbol Arrow) rest) (token_first (symbol Minus) (b ∷ rest)) (IsShorter (suc (suc (length rest)))) (λ e. omega arith) (λ e. omega arith)
+
+shorter_run : (token : List ℕ → Token) (test : ℕ → Bool) (b : ℕ) (rest : List ℕ) → test b ≡ true → IsShorter (suc (length rest)) (front_at_run token test (b ∷ rest))
+shorter_run token test b rest e =
+    let long : 1 + prefix_len test rest ≡ prefix_len test (b ∷ rest) = sym (cond-true (test b) (1 + prefix_len test rest) 0 e) in
+    let less : length (drop (prefix_len test (b ∷ rest)) (b ∷ rest)) ≡ suc (length rest) - prefix_len test (b ∷ rest) = length-drop (prefix_len test (b ∷ rest)) (b ∷ rest) in
+    omega arith
+
+shorter_at : (b : ℕ) (rest : List ℕ) → IsShorter (suc (length rest)) (front_at b rest)
+shorter_at b rest =
+    let line = b ∷ rest in
+    let Good = IsShorter (suc (length rest)) in
+    let at_symbol = front_at_symbol (symbol_of b) rest in
+    let at_minus = cond (eqb b 45) (front_at_minus rest) at_symbol in
+    let at_digit = cond (is_ascii_digit b) (front_at_run number is_ascii_digit line) at_minus in
+    cond_both (is_letter b) (front_at_run name is_name_byte line) at_digit Good
+    (λ e. shorter_run name is_name_byte b rest (letter_in_name b e))
+    (λ _. cond_both (is_ascii_digit b) (front_at_run number is_ascii_digit line) at_minus Good
+    (λ e. shorter_run number is_ascii_digit b rest e)
+    (λ _. cond_both (eqb b 45) (front_at_minus rest) at_symbol Good
+    (λ _. shorter_minus rest)
+    (λ _. shorter_symbol (symbol_of b) rest)))
+
+pub front_is_shorter : (line : List ℕ) → IsShorter (length line) (front_of line)
+front_is_shorter [] = tt
+front_is_shorter (b ∷ rest) =
+    cond_both (is_blank b) (front_of rest) (front_at b rest) (IsShorter (suc (length rest)))
+    (λ _. shorter_than_more (front_of rest) (length rest) (front_is_shorter rest))
+    (λ _. shorter_at b rest)
+
+pub rest_is_shorter : (line rest : List ℕ) (t : Token) → front_of line ≡ token_first t rest → length rest < length line
+rest_is_shorter line rest t e = subst (IsShorter (length line)) e (front_is_shorter line)

@@ -1,12 +1,13 @@
 -- Blanks at the front of a line change neither whether it is skipped nor its first token, and a text is its first line
 -- and the lines behind the first newline.
-use Rattle.std.proofs.Common.{◌≡◌, ℕ, suc, ◌+◌, ◌-◌, ◌<◌, ◌≤◌, Bool, true, false, cond, eqb, ltb, not, List, [], ◌∷◌, length, get_or, take, drop, refl, sym, ap, subst, ◌∙◌, arith, inl, inr, Option, Some, None}
+use Rattle.std.proofs.Common.{◌≡◌, ℕ, suc, ◌+◌, ◌-◌, ◌<◌, ◌≤◌, Bool, true, false, cond, eqb, ltb, not, List, [], ◌∷◌, length, get_or, take, drop, refl, sym, ap, subst, ◌∙◌, arith, Some, None}
 use Rattle.std.specs.List.{prefix_len, position, position_or_len, filter}
-use Rattle.std.proofs.lemmas.Bool.{cases_Bool, ltb-true, ltb-false}
+use Rattle.std.proofs.lemmas.Bool.{ltb-true}
 use Rattle.std.proofs.lemmas.List.{take_all}
 use Rattle.std.proofs.lemmas.Option.{cond_some}
-use Rattle.std.proofs.lemmas.List.Sums.{fails_before_first, prefix_len-le-length}
+use Rattle.std.proofs.lemmas.List.Sums.{prefix_len-le-length}
 use Rattle.std.proofs.lemmas.List.Splits.{slice_split_none, slice_split_first}
+use Rattle.lpres_reader.proofs.Positions.{position-none}
 use Rattle.lpres_reader.specs.Lines.{is_blank, is_skipped, lines_of, content_of}
 use Rattle.lpres_reader.specs.Front.{Front, line_end, front_at, front_of}
 
@@ -47,14 +48,7 @@ abbrev is_newline : ℕ → Bool
 is_newline b = eqb b 10
 
 pub lines_of-last : (text : List ℕ) → position is_newline text ≡ None → lines_of text ≡ text ∷ []
-lines_of-last text e =
-    let n = position_or_len is_newline text in
-    let none : ltb n (length text) ≡ false = elim (cases_Bool (ltb n (length text))) [
-      | inl t ↦ absurd (let f : Some n ≡ None = ap (λ (b : Bool). cond b (Some n) None) (sym t) ∙ e in cc)
-      | inr f ↦ f
-    ] in
-    let long : length text ≤ n = ltb-false n (length text) none in
-    slice_split_none is_newline text (λ k d lt. fails_before_first is_newline text k d (omega arith))
+lines_of-last text e = slice_split_none is_newline text (λ k d lt. position-none is_newline text k d e lt)
 
 pub lines_of-first : (text : List ℕ) (at : ℕ) → position is_newline text ≡ Some at → (lines_of text ≡ take at text ∷ lines_of (drop (at + 1) text)) × (at < length text)
 lines_of-first text at e =
@@ -71,11 +65,6 @@ content_of-skipped text line others e skip =
 pub content_of-kept : (text line : List ℕ) (others : List (List ℕ)) → lines_of text ≡ line ∷ others → is_skipped line ≡ false → content_of text ≡ line ∷ filter (λ l. not (is_skipped l)) others
 content_of-kept text line others e keep =
     ap (filter (λ l. not (is_skipped l))) e ∙ ap (λ (b : Bool). cond (not b) (line ∷ filter (λ l. not (is_skipped l)) others) (filter (λ l. not (is_skipped l)) others)) keep
-
--- how much of a text is left, which is less behind each line
-abbrev pub size_left : Option (List ℕ) → ℕ
-size_left None = 0
-size_left (Some text) = suc (length text)
 
 -- what is seen past blanks, by cases on the line r without them
 pub skipped_nothing : (line r : List ℕ) → r ≡ without_blanks line → length r < 1 → true ≡ is_skipped line

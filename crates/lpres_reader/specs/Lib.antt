@@ -9,3 +9,4 @@ pub mod Front
 pub mod Left
 pub mod Presentations
 pub mod Refusals
+pub mod PlainLines

@@ -4,8 +4,10 @@
 
 mod line;
 mod presentation;
+mod reading;
 mod refusal;
 mod token;
 
 pub use presentation::LPres;
+pub use reading::read;
 pub use refusal::ReadRefusal;

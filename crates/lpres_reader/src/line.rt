@@ -3,7 +3,7 @@
 ghost use Rattle.std.specs.Prelude.{◌≡◌, ◌<◌, ◌≤◌, ◌==◌, [], ◌∷◌, length, drop, option_map, IfSome, MatchOption};
 ghost use Rattle.std.specs.List.{prefix_len, position};
 ghost use Rattle.lpres_reader.specs.Lines.{is_blank, is_skipped, lines_of};
-ghost use Rattle.lpres_reader.specs.Left.{content_left};
+ghost use Rattle.lpres_reader.specs.Left.{content_left, size_left};
 
 /// Whether a byte is a space, a tab or a carriage return.
 fn is_blank(byte: u8) -> bool
@@ -57,7 +57,8 @@ fn cut_line(text: &[u8]) -> (&[u8], Option<&[u8]>)
 
 /// The first line that is not skipped, and the text behind it, which may have no more lines.
 pub(crate) fn next_content(text: Option<&[u8]>) -> Option<(&[u8], Option<&[u8]>)>
-    ensures { MatchOption result (content_left (option_map (λ t. t.now) text.entry) ≡ []) (λ found. content_left (option_map (λ t. t.now) text.entry) ≡ found.0.now ∷ content_left (option_map (λ t. t.now) found.1)) }
+    ensures lines { MatchOption result (content_left (option_map (λ t. t.now) text.entry) ≡ []) (λ found. content_left (option_map (λ t. t.now) text.entry) ≡ found.0.now ∷ content_left (option_map (λ t. t.now) found.1)) }
+    ensures shorter { IfSome result (λ found. size_left (option_map (λ t. t.now) found.1) < size_left (option_map (λ t. t.now) text.entry)) }
 {
     let mut left = text;
     while let Some(text) = left {

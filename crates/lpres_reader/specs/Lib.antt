@@ -5,3 +5,8 @@ pub mod Items
 pub mod Limits
 pub mod Reads
 pub mod Narrow
+pub mod Front
+pub mod Left
+pub mod Presentations
+pub mod Refusals
+pub mod PlainLines

@@ -1,5 +1,5 @@
 -- Narrow texts: generators without commas, and each other line one fixed relator that is one name alone.
-use Rattle.std.specs.Prelude.{◌≡◌, ℕ, List, [], ◌∷◌, map, All, codes}
+use Rattle.std.specs.Prelude.{◌≡◌, ◌<◌, ℕ, suc, pos, List, [], ◌∷◌, length, map, All, codes}
 use Rattle.pq_base.specs.LPresentation.{LPresentation}
 use Rattle.lpres_reader.specs.Lines.{content_of}
 use Rattle.lpres_reader.specs.Tokens.{name, ReadsTokens}
@@ -19,3 +19,9 @@ pub record HasNarrowForm (text : List ℕ) : Type 0 where
 
 abbrev pub IsNarrow : List ℕ → Type 0
 IsNarrow text = ((L : LPresentation) × Reads text L) × HasNarrowForm text
+
+-- each relator is one generator, and nothing is carried along
+pub record HasGeneratorRelators (L : LPresentation) : Type 0 where
+  pub fixed : All (λ w. (k : ℕ) × (k < length L.names) × (w ≡ pos (suc k) ∷ [])) L.fixed
+  pub iterated : L.iterated ≡ []
+  pub endos : L.endos ≡ []

@@ -1,33 +1,25 @@
 -- Tokens: names, numbers and symbols, as they stand in a line. A name and a number go as far as they can, and blanks
 -- may stand between tokens.
-use Rattle.std.specs.Prelude.{◌≡◌, ℕ, Bool, true, false, List, [], ◌∷◌, ◌++◌, codes}
-use Rattle.std.specs.Char.{is_ascii_digit, is_ascii_alphabetic, is_ascii_alphanumeric}
-use Rattle.std.specs.Prelude.{◌||◌, ◌==◌}
+use Rattle.std.specs.Prelude.{◌≡◌, ℕ, Bool, true, false, ◌&&◌, IsTrue, List, [], ◌∷◌, ◌++◌, codes}
+use Rattle.std.specs.List.{list_all}
+use Rattle.std.specs.Char.{is_ascii_digit}
+use Rattle.pq_base.specs.Name.{is_name_byte, IsNameText}
+use Rattle.lpres_reader.specs.declared.token.Symbol.{Symbol}
+use Rattle.lpres_reader.specs.declared.token.Symbol.TheVariants.{Arrow, Star, Caret, Minus, Equals, Comma, OpenRound, CloseRound, OpenSquare, CloseSquare}
 use Rattle.lpres_reader.specs.Lines.{is_blank}
 
-pub data Symbol : Type 0 where
-  arrow : Symbol
-  star : Symbol
-  caret : Symbol
-  minus : Symbol
-  equals : Symbol
-  comma : Symbol
-  open_round : Symbol
-  close_round : Symbol
-  open_square : Symbol
-  close_square : Symbol
-
+-- the bytes of a symbol
 abbrev pub symbol_bytes : Symbol → List ℕ
-symbol_bytes arrow = codes "->"
-symbol_bytes star = codes "*"
-symbol_bytes caret = codes "^"
-symbol_bytes minus = codes "-"
-symbol_bytes equals = codes "="
-symbol_bytes comma = codes ","
-symbol_bytes open_round = codes "("
-symbol_bytes close_round = codes ")"
-symbol_bytes open_square = codes "["
-symbol_bytes close_square = codes "]"
+symbol_bytes Arrow = codes "->"
+symbol_bytes Star = codes "*"
+symbol_bytes Caret = codes "^"
+symbol_bytes Minus = codes "-"
+symbol_bytes Equals = codes "="
+symbol_bytes Comma = codes ","
+symbol_bytes OpenRound = codes "("
+symbol_bytes CloseRound = codes ")"
+symbol_bytes OpenSquare = codes "["
+symbol_bytes CloseSquare = codes "]"
 
 -- a name and a number are their bytes
 pub data Token : Type 0 where
@@ -35,24 +27,13 @@ pub data Token : Type 0 where
   number : List ℕ → Token
   symbol : Symbol → Token
 
--- a letter, a digit or `_`
-abbrev pub is_name_byte : ℕ → Bool
-is_name_byte b = is_ascii_alphanumeric b || b == 95
-
--- each byte passes the test
-abbrev pub AllPass : (ℕ → Bool) → List ℕ → Type 0
-AllPass test [] = Unit {0}
-AllPass test (b ∷ bytes) = (test b ≡ true) × AllPass test bytes
-
--- a letter, and then letters, digits and `_`
-abbrev pub IsNameText : List ℕ → Type 0
-IsNameText [] = ⊥
-IsNameText (b ∷ bytes) = (is_ascii_alphabetic b ≡ true) × AllPass is_name_byte bytes
-
 -- one digit or more
+abbrev pub is_number_text : List ℕ → Bool
+is_number_text [] = false
+is_number_text (b ∷ bytes) = is_ascii_digit b && list_all is_ascii_digit bytes
+
 abbrev pub IsNumberText : List ℕ → Type 0
-IsNumberText [] = ⊥
-IsNumberText (b ∷ bytes) = (is_ascii_digit b ≡ true) × AllPass is_ascii_digit bytes
+IsNumberText bytes = IsTrue (is_number_text bytes)
 
 -- the bytes do not begin with one that passes the test
 abbrev pub StopsBefore : (ℕ → Bool) → List ℕ → Type 0

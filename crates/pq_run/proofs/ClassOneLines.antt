@@ -1,14 +1,14 @@
 -- The text of the answer of class 1 is made of its head, a line for each generator that is left, and a line for each image.
-use Rattle.std.proofs.Common.{◌≡◌, ◌+◌, ◌<◌, ◌≤◌, ℕ, zero, suc, min, Bool, true, false, List, [], ◌∷◌, ◌++◌, get_or, length, drop, replicate, decimal, refl, sym, ap, ◌∙◌, append_assoc, append-nil, arith, add-zero, add-one, zero-add}
+use Rattle.std.proofs.Common.{◌≡◌, ◌+◌, ◌<◌, ℕ, zero, suc, min, Bool, true, false, List, [], ◌∷◌, ◌++◌, get_or, length, drop, replicate, decimal, refl, ap, ◌∙◌, append_assoc, arith, add-zero, add-one, zero-add}
 use Rattle.std.specs.Prelude.{codes}
 use Rattle.std.proofs.lemmas.Fmt.{decimal_digit}
 use Rattle.std.proofs.Math.Seq.{drop-cons}
-use Rattle.pq_base.specs.Answer.{Definition, last_or_zero}
+use Rattle.pq_base.specs.Answer.{last_or_zero}
 use Rattle.pq_base.specs.Answer.Definition.{image}
 use Rattle.pq_base.specs.Canonical.{unit}
 use Rattle.pq_base.specs.Elementary.{zeros, zero_powers, zero_rows}
 use Rattle.pq_base.specs.ClassOne.{class_one_answer, class_one_definitions, class_one_images, left_count}
-use Rattle.pq_run.specs.AnswerText.{answer_text, answer_lines, head_lines, body_lines, text_of_lines, generator_text, generator_lines, generator_line, relation_lines, power_lines, power_text, commutator_text, commutator_lines, commutator_row_lines, image_lines, image_line, syllables, product_text}
+use Rattle.pq_run.specs.AnswerText.{answer_text, head_lines, text_of_lines, generator_text, generator_lines, generator_line, power_lines, commutator_lines, commutator_row_lines, image_lines, syllables}
 use Rattle.pq_run.specs.ClassOneText.{class_one_generators, class_one_generator, class_one_image_lines, class_one_image, empty_image}
 
 pub text_of_lines-append : (ks ls : List (List ℕ)) → text_of_lines (ks ++ ls) ≡ text_of_lines ks ++ text_of_lines ls
@@ -97,6 +97,7 @@ pub answer_text-class_one : (p : ℕ) (names : List (List ℕ)) (killed : List B
     → answer_text (class_one_answer p names killed)
     ≡ text_of_lines (head_lines p (min (left_count killed) 1) (left_count killed))
     ++ (text_of_lines (class_one_generators names 0 0 killed) ++ (text_of_lines (class_one_image_lines names 0 0 killed) ++ (codes "end" ++ 10 ∷ [])))
+unfolding answer_text
 answer_text-class_one p names killed all =
     let n = left_count killed in
     let gens = generator_lines p names 0 (replicate n 1) (class_one_definitions 1 killed) in

@@ -1,13 +1,12 @@
 -- One list of words spells at most one command, so what kind of command words ask for is one thing.
-use Rattle.std.proofs.Common.{◌≡◌, ◌<◌, ◌≤◌, ◌^◌, ℕ, List, [], ◌∷◌, get_or, length, ◌+◌, ◌*◌, refl, sym, ap, ◌∙◌, subst, decimal, arith}
-use Rattle.std.specs.Prelude.{codes}
+use Rattle.std.proofs.Common.{◌≡◌, ◌<◌, ◌≤◌, ◌^◌, ℕ, List, [], get_or, length, ◌+◌, ◌*◌, refl, sym, ap, ◌∙◌, subst, decimal, arith}
 use Rattle.std.proofs.lemmas.Fmt.{decimal_injective}
 use Rattle.pq_base.specs.declared.prime.Prime.{Prime}
 use Rattle.pq_base.specs.declared.prime.Prime.TheVariants.{P2, P3, P5, P7}
 use Rattle.pq_base.specs.Prime.{prime_value}
 use Rattle.pq_run.specs.declared.command.Command.{Command}
 use Rattle.pq_run.specs.declared.command.Command.TheVariants.{Quotient, Json, Certify, Check, Sample}
-use Rattle.pq_run.specs.Command.{command_words, CommandWords, AreCommandWords, IsInRange}
+use Rattle.pq_run.specs.Command.{command_words, CommandWords, IsInRange}
 use Rattle.pq_run.specs.Refusals.{Ask, IsUnbuilt, IsHigher, IsFirstClass, AskUnbuiltCommand, AskHigherClass, AskFirstClass}
 
 -- word number i, counted from 0

@@ -1,16 +1,16 @@
 -- What follows from how a command ends: when the words alone decide, when the input is refused, and when it is done.
-use Rattle.std.proofs.Common.{◌≡◌, ◌⊎◌, ◌≤◌, ◌↔◌, ℕ, List, length, Option, Some, None, IfSome, inl, inr, refl, sym, ◌∙◌, subst, arith}
+use Rattle.std.proofs.Common.{◌≡◌, ◌⊎◌, ◌≤◌, ◌↔◌, ℕ, List, length, Option, Some, None, IfSome, inl, inr, refl, sym, ◌∙◌, arith}
 use Rattle.pq_base.specs.declared.status.Status.{Status}
-use Rattle.pq_base.specs.declared.status.Status.TheVariants.{Done, BadWords, NotBuilt, WriteFault, ReadFault as ReadFaultStatus, NoMemory as NoMemoryStatus}
+use Rattle.pq_base.specs.declared.status.Status.TheVariants.{Done, BadWords, NotBuilt, WriteFault, NoMemory as NoMemoryStatus}
 use Rattle.lpres_reader.specs.Narrow.{IsNarrow}
 use Rattle.pq_io.specs.Faults.{Rose}
 use Rattle.pq_run.specs.declared.command.Command.{Command}
 use Rattle.pq_run.specs.declared.refusal.Refusal.{Refusal}
 use Rattle.pq_run.specs.declared.refusal.Refusal.TheVariants.{Words, UnbuiltCommand, UnbuiltClass, UnbuiltInput, ReadFault, NoMemory}
 use Rattle.pq_run.specs.Command.{AreCommandWords}
-use Rattle.pq_run.specs.Refusals.{Ask, IsFirstClass, IsUnbuilt, IsHigher, AskUnbuiltCommand, AskHigherClass, AskFirstClass, IsUnbuiltInput, IsCause, Refuses, refusal_status, byte_limit}
-use Rattle.pq_run.specs.Ends.{Ends, EndsDone, EndsCut, Streams, IsBuiltInput}
-use Rattle.pq_run.proofs.Commands.{unbuilt_command-not_first, higher_class-not_first, unbuilt_command-not_higher}
+use Rattle.pq_run.specs.Refusals.{Ask, IsFirstClass, IsUnbuilt, IsHigher, AskUnbuiltCommand, AskHigherClass, AskFirstClass, IsUnbuiltInput, IsCause, refusal_status, byte_limit}
+use Rattle.pq_run.specs.Ends.{Ends, Streams, IsBuiltInput}
+use Rattle.pq_run.proofs.Commands.{unbuilt_command-not_first, higher_class-not_first}
 
 asked-words : (kind : Command → Type 0) (words : List (List ℕ)) → Ask kind words → AreCommandWords words
 asked-words kind words a = (a.0, a.1)

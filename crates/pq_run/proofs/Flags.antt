@@ -1,5 +1,5 @@
 -- A loop that finds out, one generator after the other, which of them are relators.
-use Rattle.std.proofs.Common.{◌≡◌, ◌+◌, ◌-◌, ◌<◌, ℕ, suc, ℤ, Bool, List, [], ◌∷◌, ◌++◌, refl, sym, ap, ◌∙◌, append_assoc, add-one, arith}
+use Rattle.std.proofs.Common.{◌≡◌, ◌+◌, ◌-◌, ◌<◌, ℕ, suc, ℤ, Bool, List, [], ◌∷◌, ◌++◌, append_assoc, add-one, arith}
 use Rattle.pq_base.specs.ClassOne.{is_letter_among, flags_from}
 
 pub flags_from-next : (old new all : List Bool) (i count : ℕ) (words : List (List ℤ)) (flag : Bool) → i < count

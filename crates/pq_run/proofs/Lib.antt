@@ -3,3 +3,4 @@ pub mod ClassOneLines
 pub mod Flags
 pub mod Commands
 pub mod EndsLaws
+pub mod ClassOneOf

@@ -109,5 +109,5 @@ abbrev pub text_of_lines : List (List ℕ) → List ℕ
 text_of_lines [] = []
 text_of_lines (l ∷ ls) = l ++ (10 ∷ text_of_lines ls)
 
-abbrev pub answer_text : Answer → List ℕ
+unfoldable pub answer_text : Answer → List ℕ
 answer_text A = text_of_lines (answer_lines A)

@@ -1,6 +1,5 @@
 -- The lines of the answer of class 1 of a presentation whose relators are generators.
-use Rattle.std.specs.Prelude.{ℕ, zero, suc, Bool, true, false, List, [], ◌∷◌, ◌++◌, get_or, codes, decimal}
-use Rattle.pq_run.specs.AnswerText.{generator_text}
+use Rattle.std.specs.Prelude.{ℕ, suc, Bool, true, false, List, [], ◌∷◌, ◌++◌, get_or, codes, decimal}
 
 abbrev pub class_one_generator : ℕ → List ℕ → List ℕ
 class_one_generator k name = codes "generator a" ++ (decimal k ++ (codes " weight 1 from image " ++ name))

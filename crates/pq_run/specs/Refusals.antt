@@ -1,7 +1,6 @@
 -- Why a command is refused: the line that is written, the status, and what it takes to be refused so.
 -- From: this project's own commands.
-use Rattle.std.specs.Prelude.{◌≡◌, ◌⊎◌, ◌<◌, ◌≤◌, ◌+◌, ℕ, List, [], ◌∷◌, ◌++◌, length, codes, Option, IfSome}
-use Rattle.pq_base.specs.declared.prime.Prime.{Prime}
+use Rattle.std.specs.Prelude.{◌≡◌, ◌⊎◌, ◌<◌, ℕ, List, [], ◌∷◌, ◌++◌, length, codes, Option, IfSome}
 use Rattle.pq_base.specs.declared.status.Status.{Status}
 use Rattle.pq_base.specs.declared.status.Status.TheVariants.{BadWords, NotBuilt, ReadFault as ReadFaultStatus, NoMemory as NoMemoryStatus}
 use Rattle.lpres_reader.specs.Narrow.{IsNarrow}

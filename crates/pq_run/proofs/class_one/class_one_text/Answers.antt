@@ -1,4 +1,4 @@
-use Rattle.std.proofs.Common.{◌≡◌, ℕ, List, [], ◌∷◌, ◌++◌, refl, ap, sym, ◌∙◌, append_assoc}
+use Rattle.std.proofs.Common.{◌≡◌, ℕ, List, [], ◌++◌, sym, ◌∙◌, append_assoc}
 use Rattle.pq_run.proofs.ClassOneLines.{answer_text-class_one}
 use Rattle.pq_run.proofs.class_one.class_one_text.Goals as goal
 

@@ -1,6 +1,6 @@
-use Rattle.std.proofs.Common.{◌≡◌, ◌+◌, ◌++◌, [], ◌∷◌, ℕ, List, get_or, drop, ap, ◌∙◌, arith}
+use Rattle.std.proofs.Common.{◌+◌, ◌++◌, [], ◌∷◌, ℕ, List, get_or, ap, ◌∙◌, arith}
 use Rattle.std.proofs.lemmas.List.{get_or_read}
-use Rattle.pq_run.specs.ClassOneText.{class_one_generator, class_one_generators}
+use Rattle.pq_run.specs.ClassOneText.{class_one_generator}
 use Rattle.pq_run.proofs.ClassOneLines.{class_one_generators-left, text_of_lines-next}
 use Rattle.pq_run.proofs.class_one.push_generators.Goals as goal
 

@@ -1,4 +1,3 @@
-use Rattle.std.proofs.Common.{arith}
 use Rattle.pq_run.proofs.Flags.{flags_from-next}
 use Rattle.pq_run.proofs.relators.flags.Goals as goal
 

@@ -23,9 +23,9 @@ pub largest_text : {E : Type 0} (r : Result (Vec ℕ) E) (L : LPresentation) (p 
     → IfOk r (λ t. (a : Answer) × IsLargest L p 1 a × (t.items ≡ answer_text a))
 largest_text (Ok t) L p q names killed prime same flags largest text =
     let here : t.items ≡ answer_text (class_one_answer p L.names (flags_of L)) =
-          text ∙ ap (λ (x : ℕ). answer_text (class_one_answer x names killed)) prime
-               ∙ ap (λ (x : List (List ℕ)). answer_text (class_one_answer p x killed)) same
-               ∙ ap (λ (x : List Bool). answer_text (class_one_answer p L.names x)) flags in
+    text ∙ ap (λ (x : ℕ). answer_text (class_one_answer x names killed)) prime
+    ∙ ap (λ (x : List (List ℕ)). answer_text (class_one_answer p x killed)) same
+    ∙ ap (λ (x : List Bool). answer_text (class_one_answer p L.names x)) flags in
     (class_one_answer p L.names (flags_of L), largest, here)
 largest_text (Err e) L p q names killed prime same flags largest text = tt
 

@@ -43,9 +43,10 @@ prime_value-injective P7 P7 e = refl
 
 same_prime_and_class : (p q : Prime) (c d : ℕ) → c ≤ 60 → d ≤ 60 → decimal (prime_value p) ≡ decimal (prime_value q) → decimal c ≡ decimal d
     → (p ≡ q) × (c ≡ d)
-same_prime_and_class p q c d hc hd primes classes =
-    (prime_value-injective p q (decimal_injective (prime_value p) (prime_value q) (prime_value-small p) (prime_value-small q) primes),
-     decimal_injective c d (omega arith) (omega arith) classes)
+same_prime_and_class p q c d hc hd primes classes = (
+  prime_value-injective p q (decimal_injective (prime_value p) (prime_value q) (prime_value-small p) (prime_value-small q) primes),
+  decimal_injective c d (omega arith) (omega arith) classes,
+)
 
 pub command_words-injective : (c d : Command) → IsInRange c → IsInRange d → command_words c ≡ command_words d → c ≡ d
 command_words-injective (Quotient p c) (Quotient q d) r s e =

@@ -73,9 +73,10 @@ bad_words-ends words s status (inl done) =
     ((λ e. absurd (done_or_bad (sym done.is ∙ e))), (λ bad. absurd (bad (asked-words IsFirstClass words done.asked))))
 bad_words-ends words s status (inr (inl cut)) =
     ((λ e. absurd (cut_or_bad (sym cut.is ∙ e))), (λ bad. absurd (bad (asked-words IsFirstClass words cut.asked))))
-bad_words-ends words s status (inr (inr r)) =
-    ((λ e. bad_words_cause words s.left s.read_before s.read_after r.refusal r.cause (sym r.is ∙ e)),
-     (λ bad. r.is ∙ bad_words_status words s.left s.read_before s.read_after r.refusal r.cause bad))
+bad_words-ends words s status (inr (inr r)) = (
+  (λ e. bad_words_cause words s.left s.read_before s.read_after r.refusal r.cause (sym r.is ∙ e)),
+  (λ bad. r.is ∙ bad_words_status words s.left s.read_before s.read_after r.refusal r.cause bad),
+)
 
 pub command-ends : (words : List (List ℕ)) (s : Streams) (status : Status) → Ends words s status → AskUnbuiltCommand words → status ≡ NotBuilt
 command-ends words s status (inl done) ask = absurd (unbuilt_command-not_first words ask done.asked)

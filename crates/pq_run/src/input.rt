@@ -12,8 +12,8 @@ use crate::class_one::class_one_text;
 use crate::refusal::Refusal;
 use crate::relators::flags;
 use lpres_reader::{LPres, ReadRefusal, read};
-use pq_base::{NoMemory, Prime};
 use pq_base::limits::PRESENTATION_BYTES;
+use pq_base::{NoMemory, Prime};
 use pq_io::{InputRefusal, Source, read_up_to};
 use std::alloc::Global;
 

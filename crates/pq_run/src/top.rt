@@ -20,12 +20,7 @@ use std::alloc::Global;
 /// Carries out the command that the words spell: reads a presentation from the source to its end and writes the
 /// result, or a line that says why the command is refused. The line is written as far as the sink takes it.
 /// Built so far: `quotient P 1` for presentations whose relators are generators.
-pub fn run<S: Source, K: Sink>(
-    alloc: Global,
-    words: &Words,
-    source: &mut S,
-    sink: &mut K,
-) -> Status
+pub fn run<S: Source, K: Sink>(alloc: Global, words: &Words, source: &mut S, sink: &mut K) -> Status
     // The input was read to its end, and its output was written, and nothing else.
     ensures done { result ≡ Status.Done → WritesOutput words.now (S.left source.old) (S.left source.new) (K.taken sink.old) (K.taken sink.new) }
 

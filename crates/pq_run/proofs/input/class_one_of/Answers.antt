@@ -18,4 +18,4 @@ returns c =
     let largest = class_one_read L (prime_value c.args.prime) c.names-names.ensures.presentation c.names-names.ensures.limits c.requires small in
     let flags = flags_read L c.names-names.result.now c.fixed.result.now _ c.deref.result.now c.deref.ensures.value c.in_ok-killed.ensures c.names-names.ensures.names c.fixed.ensures in
     largest_text c.class_one_text.result L (prime_value c.args.prime) c.value.result c.names-names.result.now c.deref.result.now
-      c.value.ensures.value c.names-names.ensures.names flags largest c.class_one_text.ensures
+    c.value.ensures.value c.names-names.ensures.names flags largest c.class_one_text.ensures

@@ -10,3 +10,4 @@ pub mod NarrowForms
 pub mod ShallowLines
 pub mod PlainTexts
 pub mod NarrowTexts
+pub mod Samples

@@ -6,6 +6,8 @@ mod line;
 mod presentation;
 mod reading;
 mod refusal;
+#[cfg(test)]
+mod tests;
 mod token;
 
 pub use presentation::LPres;

@@ -59,7 +59,7 @@ pub record IsPlainText (first : List ℕ) (later names : List (List ℕ)) : Type
   pub each : ArePlainRelatorsOf names later places
   pub few : length places ≤ 4096
 
-same_first : {X : Type 0} (x y : X) (xs ys : List X) → x ∷ xs ≡ y ∷ ys → (x ≡ y) × (xs ≡ ys)
+pub same_first : {X : Type 0} (x y : X) (xs ys : List X) → x ∷ xs ≡ y ∷ ys → (x ≡ y) × (xs ≡ ys)
 same_first x y xs ys e = (cc, cc)
 
 -- a narrow text's lines are of these forms

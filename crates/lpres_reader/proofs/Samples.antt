@@ -19,6 +19,7 @@ use Rattle.lpres_reader.specs.Front.{token_first, front_of}
 use Rattle.lpres_reader.proofs.FrontLemmas.{tokens_unique}
 use Rattle.lpres_reader.proofs.PlainNames.{token_leads, ends_here}
 use Rattle.lpres_reader.proofs.NarrowForms.{names_are}
+use Rattle.lpres_reader.proofs.NarrowTexts.{same_first}
 
 -- the tokens of a line, one after the other
 next : (line rest : List ℕ) (t : Token) (ts : List Token) → front_of line ≡ token_first t rest → ReadsTokens rest ts → ReadsTokens line (t ∷ ts)
@@ -192,15 +193,12 @@ lamplighter_reads = record {
 pub nothing_reads : (L : LPresentation) → Reads [] L → ⊥
 nothing_reads L r = let e = r.lines in cc
 
-first_two : {X : Type 0} (x y : X) (xs ys : List X) → x ∷ xs ≡ y ∷ ys → (x ≡ y) × (xs ≡ ys)
-first_two x y xs ys e = (cc, cc)
-
 pub repeated_reads : (L : LPresentation) → Reads (codes "generators x x") L → ⊥
 repeated_reads L r =
-    let line = (first_two (codes "generators x x") r.first [] r.later r.lines).0 in
+    let line = (same_first (codes "generators x x") r.first [] r.later r.lines).0 in
     let spelled : ReadsTokens (codes "generators x x") (name (codes "generators") ∷ name (codes "x") ∷ name (codes "x") ∷ []) = next _ _ _ _ refl (next _ _ _ _ refl (next _ _ _ _ refl (ends_here _ refl))) in
     let tokens = tokens_unique r.generators.tokens _ (codes "generators x x") (subst (λ (l : List ℕ). ReadsTokens l r.generators.tokens) (sym line) r.generators.spelled) spelled in
-    let behind = (first_two (name (codes "generators")) (name (codes "generators")) r.generators.formed.0 (name (codes "x") ∷ name (codes "x") ∷ []) (sym r.generators.formed.1 ∙ tokens)).1 in
+    let behind = (same_first (name (codes "generators")) (name (codes "generators")) r.generators.formed.0 (name (codes "x") ∷ name (codes "x") ∷ []) (sym r.generators.formed.1 ∙ tokens)).1 in
     let same : L.names ≡ codes "x" ∷ codes "x" ∷ [] = names_are r.generators.formed.2 (codes "x" ∷ codes "x" ∷ []) behind in
     let twice : AreDistinct (codes "x" ∷ codes "x" ∷ []) = subst AreDistinct same r.distinct in
     twice 0 1 (omega arith) (omega arith) refl

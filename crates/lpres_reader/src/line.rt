@@ -46,7 +46,9 @@ fn first_newline(text: &[u8]) -> Option<usize>
 
 /// The first line of a text, and what is behind its newline, where it has one.
 fn cut_line(text: &[u8]) -> (&[u8], Option<&[u8]>)
-    ensures lines { MatchOption result.1 (lines_of text.now ≡ result.0.now ∷ []) (λ after. lines_of text.now ≡ result.0.now ∷ lines_of after.now) }
+    ensures lines { MatchOption result.1
+        (lines_of text.now ≡ result.0.now ∷ [])
+        (λ after. lines_of text.now ≡ result.0.now ∷ lines_of after.now) }
     ensures shorter { IfSome result.1 (λ after. length after.now < length text.now) }
 {
     match first_newline(text) {
@@ -57,8 +59,11 @@ fn cut_line(text: &[u8]) -> (&[u8], Option<&[u8]>)
 
 /// The first line that is not skipped, and the text behind it, which may have no more lines.
 pub(crate) fn next_content(text: Option<&[u8]>) -> Option<(&[u8], Option<&[u8]>)>
-    ensures lines { MatchOption result (content_left (option_map (λ t. t.now) text.entry) ≡ []) (λ found. content_left (option_map (λ t. t.now) text.entry) ≡ found.0.now ∷ content_left (option_map (λ t. t.now) found.1)) }
-    ensures shorter { IfSome result (λ found. size_left (option_map (λ t. t.now) found.1) < size_left (option_map (λ t. t.now) text.entry)) }
+    ensures lines { let lines = content_left (option_map (λ t. t.now) text.entry) in MatchOption result
+        (lines ≡ [])
+        (λ found. lines ≡ found.0.now ∷ content_left (option_map (λ t. t.now) found.1)) }
+    ensures shorter { IfSome result (λ found.
+        size_left (option_map (λ t. t.now) found.1) < size_left (option_map (λ t. t.now) text.entry)) }
 {
     let mut left = text;
     while let Some(text) = left {

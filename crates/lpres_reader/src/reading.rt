@@ -23,7 +23,11 @@ use std::alloc::Global;
 
 /// The name at the front of a line and what is behind it, or `None` where only blanks are left.
 fn next_name(line: &[u8]) -> Result<Option<(&[u8], &[u8])>, ReadRefusal>
-    ensures { MatchResult result (λ found. MatchOption found (front_of line.now ≡ line_end) (λ found. front_of line.now ≡ token_first (name found.0.now) found.1.now)) (λ e. (e ≡ NotBuilt) × IsNoName (front_of line.now)) }
+    ensures { MatchResult result
+        (λ found. MatchOption found
+        (front_of line.now ≡ line_end)
+        (λ found. front_of line.now ≡ token_first (name found.0.now) found.1.now))
+        (λ e. (e ≡ NotBuilt) × IsNoName (front_of line.now)) }
 {
     match next_token(line)? {
         None => Ok(None),
@@ -34,7 +38,9 @@ fn next_name(line: &[u8]) -> Result<Option<(&[u8], &[u8])>, ReadRefusal>
 
 /// What is behind the keyword of a line.
 fn after_keyword<'a>(line: &'a [u8], keyword: &[u8]) -> Result<&'a [u8], ReadRefusal>
-    ensures { MatchResult result (λ rest. front_of line.now ≡ token_first (name keyword.now) rest.now) (λ e. (e ≡ NotBuilt) × (¬ BeginsWith line.now keyword.now)) }
+    ensures { MatchResult result
+        (λ rest. front_of line.now ≡ token_first (name keyword.now) rest.now)
+        (λ e. (e ≡ NotBuilt) × (¬ BeginsWith line.now keyword.now)) }
 {
     match next_name(line)? {
         None => Err(ReadRefusal::NotBuilt),
@@ -50,7 +56,9 @@ fn after_keyword<'a>(line: &'a [u8], keyword: &[u8]) -> Result<&'a [u8], ReadRef
 
 /// The one name of a line.
 fn only_name(line: &[u8]) -> Result<&[u8], ReadRefusal>
-    ensures { MatchResult result (λ text. ReadsTokens line.now (name text.now ∷ [])) (λ e. (e ≡ NotBuilt) × ((n : List ℕ) → ¬ ReadsTokens line.now (name n ∷ []))) }
+    ensures { MatchResult result
+        (λ text. ReadsTokens line.now (name text.now ∷ []))
+        (λ e. (e ≡ NotBuilt) × ((n : List ℕ) → ¬ ReadsTokens line.now (name n ∷ []))) }
 {
     match next_name(line)? {
         None => Err(ReadRefusal::NotBuilt),
@@ -64,7 +72,9 @@ fn only_name(line: &[u8]) -> Result<&[u8], ReadRefusal>
 /// The place of a name, counted from 0.
 fn place_of(names: &IndexSet<Name>, text: &[u8]) -> Result<usize, ReadRefusal>
     requires { All IsName names.now.keys }
-    ensures { MatchResult result (λ k. (k < length names.now.keys) × (get_or names.now.keys k [] ≡ text.now)) (λ e. (e ≡ NotBuilt) × ((k : ℕ) → k < length names.now.keys → get_or names.now.keys k [] ≢ text.now)) }
+    ensures { let known = names.now.keys in MatchResult result
+        (λ k. (k < length known) × (get_or known k [] ≡ text.now))
+        (λ e. (e ≡ NotBuilt) × ((k : ℕ) → k < length known → get_or known k [] ≢ text.now)) }
 {
     let Some(name) = Name::of(text) else {
         return Err(ReadRefusal::NotBuilt);
@@ -78,7 +88,9 @@ fn place_of(names: &IndexSet<Name>, text: &[u8]) -> Result<usize, ReadRefusal>
 /// The place of the generator that is the line's one relator, counted from 0.
 fn read_relator(names: &IndexSet<Name>, line: &[u8]) -> Result<usize, ReadRefusal>
     requires { All IsName names.now.keys }
-    ensures { MatchResult result (IsPlainRelatorOf names.now.keys line.now) (λ e. (e ≡ NotBuilt) × ((k : ℕ) → ¬ IsPlainRelatorOf names.now.keys line.now k)) }
+    ensures { MatchResult result
+        (IsPlainRelatorOf names.now.keys line.now)
+        (λ e. (e ≡ NotBuilt) × ((k : ℕ) → ¬ IsPlainRelatorOf names.now.keys line.now k)) }
 {
     let text = only_name(after_keyword(line, b"fixed")?)?;
     place_of(names, text)
@@ -90,7 +102,8 @@ fn add_name(names: &mut IndexSet<Name>, text: &[u8]) -> Result<(), ReadRefusal>
     ensures name { OnOk result (IsName text.now) }
     ensures room { OnOk result (length names.old.keys < 32) }
     ensures distinct { OnOk result (AreDistinct names.new.keys) }
-    ensures refused { result ≡ Err NotBuilt → (¬ IsName text.now) ⊎ (Contains names.old.keys text.now ⊎ (32 ≤ length names.old.keys)) }
+    ensures refused { result ≡ Err NotBuilt →
+        (¬ IsName text.now) ⊎ (Contains names.old.keys text.now ⊎ (32 ≤ length names.old.keys)) }
 {
     let Some(name) = Name::of(text) else {
         return Err(ReadRefusal::NotBuilt);
@@ -139,8 +152,10 @@ fn read_relators(
     requires each { All IsName names.now.keys }
     requires distinct { AreDistinct names.now.keys }
     requires most { length names.now.keys ≤ 32 }
-    ensures ok { IfOk result (λ relators. ArePlainWordsOf names.now.keys (content_left (option_map (λ t. t.now) text.entry)) relators.items) }
-    ensures not_built { result ≡ Err NotBuilt → (ks : List ℕ) → length ks ≤ 4096 → ¬ ArePlainRelatorsOf names.now.keys (content_left (option_map (λ t. t.now) text.entry)) ks }
+    ensures ok { let lines = content_left (option_map (λ t. t.now) text.entry) in
+        IfOk result (λ relators. ArePlainWordsOf names.now.keys lines relators.items) }
+    ensures not_built { let lines = content_left (option_map (λ t. t.now) text.entry) in
+        result ≡ Err NotBuilt → (ks : List ℕ) → length ks ≤ 4096 → ¬ ArePlainRelatorsOf names.now.keys lines ks }
 {
     let mut relators = Vec::new(alloc);
     let mut left = text;

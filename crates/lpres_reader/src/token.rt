@@ -82,7 +82,9 @@ fn symbol_at_minus(rest: &[u8]) -> (Symbol, &[u8])
 /// The token at the front of a line that begins with no blank, and what is behind it.
 fn token_at<'a>(first: u8, rest: &'a [u8], line: &'a [u8]) -> Result<(Token<'a>, &'a [u8]), NoToken>
     requires { line.now ≡ first ∷ rest.now }
-    ensures { MatchResult result (λ found. front_at first rest.now ≡ token_first (token_of found.0) found.1.now) (λ _. front_at first rest.now ≡ no_token) }
+    ensures { MatchResult result
+        (λ found. front_at first rest.now ≡ token_first (token_of found.0) found.1.now)
+        (λ _. front_at first rest.now ≡ no_token) }
 {
     if is_letter(first) {
         let (text, rest) = line.split_at(name_length(line));
@@ -103,7 +105,11 @@ fn token_at<'a>(first: u8, rest: &'a [u8], line: &'a [u8]) -> Result<(Token<'a>,
 
 /// The first token of a line and what is behind it, or `None` where only blanks are left.
 pub(crate) fn next_token(line: &[u8]) -> Result<Option<(Token<'_>, &[u8])>, NoToken>
-    ensures { MatchResult result (λ found. MatchOption found (front_of line.now ≡ line_end) (λ found. front_of line.now ≡ token_first (token_of found.0) found.1.now)) (λ _. front_of line.now ≡ no_token) }
+    ensures { MatchResult result
+        (λ found. MatchOption found
+        (front_of line.now ≡ line_end)
+        (λ found. front_of line.now ≡ token_first (token_of found.0) found.1.now))
+        (λ _. front_of line.now ≡ no_token) }
 {
     let line = after_blanks(line);
     match line {

@@ -1,0 +1,5 @@
+pub mod SyllableLaws
+pub mod RelationNumbers
+pub mod RelationTables
+pub mod StoreLaws
+pub mod PcpLaws

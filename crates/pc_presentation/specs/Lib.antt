@@ -1,0 +1,4 @@
+pub mod Syllable
+pub mod Relation
+pub mod Store
+pub mod Pcp

@@ -3,3 +3,7 @@ pub mod RelationNumbers
 pub mod RelationTables
 pub mod StoreLaws
 pub mod PcpLaws
+pub mod PutLaws
+pub mod PlainLaws
+pub mod WordTests
+pub mod BuilderLaws

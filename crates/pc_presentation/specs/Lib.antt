@@ -2,3 +2,4 @@ pub mod Syllable
 pub mod Relation
 pub mod Store
 pub mod Pcp
+pub mod Builder

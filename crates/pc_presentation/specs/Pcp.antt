@@ -2,9 +2,11 @@
 -- A tail stands for a central generator of order p that the relation's right side ends with.
 use Rattle.std.specs.Prelude.{◌≡◌, ◌<◌, ◌≤◌, ◌-◌, ℕ, zero, suc, List, [], ◌∷◌, get_or, length, map, Option, Some, None, replicate, cond, eqb}
 use Rattle.pq_base.specs.Presentation.{Presentation, IsPresentation}
+use Rattle.pq_base.specs.Elementary.{elementary}
+use Rattle.pc_presentation.specs.declared.syllable.Syllable.{Syllable}
 use Rattle.pc_presentation.specs.declared.relation.Relation.{Relation}
 use Rattle.pc_presentation.specs.Syllable.{spread}
-use Rattle.pc_presentation.specs.Relation.{IsRelation, IsTail, side_start, PerRelation, entry_at, per_relation}
+use Rattle.pc_presentation.specs.Relation.{IsRelation, IsTail, side_start, PerRelation, entry_at, with_entry, per_relation}
 use Rattle.pc_presentation.specs.Store.{Entry, stored_at}
 
 -- tails count from 1
@@ -43,6 +45,29 @@ pub record HasShape {X : Type 0} (n : ℕ) (t : PerRelation X) : Type 0 where
   pub power_count : length t.powers ≡ n
   pub row_count : length t.commutators ≡ n
   pub row_lengths : (j : ℕ) → j < n → length (get_or t.commutators j []) ≡ j
+
+-- the right side of a relation replaced
+abbrev pub with_side : Presentation → Relation → List ℕ → Presentation
+with_side P r e = let sides = with_entry (sides_of P) r e in
+    record { prime = P.prime; rank = P.rank; powers = sides.powers; commutators = sides.commutators }
+
+-- a relation replaced: its right side is a sparse word
+abbrev pub with_relation : TailedPresentation → Relation → List Syllable → Option ℕ → TailedPresentation
+with_relation T r word tail = record {
+  presentation = with_side T.presentation r (spread (T.presentation.rank - side_start r) (side_start r) word);
+  weights = T.weights;
+  tails = T.tails;
+  tail_table = with_entry T.tail_table r tail;
+}
+
+-- every right side is empty, and no relation has a tail
+abbrev pub plain_presentation : ℕ → List ℕ → ℕ → TailedPresentation
+plain_presentation p weights tails = record {
+  presentation = elementary p (length weights);
+  weights = weights;
+  tails = tails;
+  tail_table = per_relation (length weights) (λ _. None);
+}
 
 pub record IsTailedPresentation (T : TailedPresentation) : Type 0 where
   pub presentation : IsPresentation T.presentation

@@ -1,6 +1,6 @@
 -- Sparse words: lists of syllables with rising generators, which stand for lists of exponents.
 -- Generators count from 1 in syllables, and places from 0: generator k + 1 is at place k.
-use Rattle.std.specs.Prelude.{◌<◌, ◌≤◌, ℕ, zero, suc, ℤ, pos, eqb, cond, List, [], ◌∷◌, ◌++◌}
+use Rattle.std.specs.Prelude.{◌<◌, ◌≤◌, ℕ, zero, suc, ℤ, pos, eqb, cond, List, [], ◌∷◌, ◌++◌, All, Bool, true, nat_lt, ◌&&◌, IsTrue}
 use Rattle.pq_base.specs.SignedWord.{copies}
 use Rattle.pc_presentation.specs.declared.syllable.Syllable.{Syllable}
 
@@ -37,3 +37,20 @@ AreSyllables p n k (s ∷ w) = (k < s.generator) × (s.generator ≤ n) × (1 �
 abbrev pub letters_of : List Syllable → List ℤ
 letters_of [] = []
 letters_of (s ∷ w) = copies (pos s.generator ∷ []) s.exponent ++ letters_of w
+
+-- each generator is one of n
+abbrev pub AreGenerators : ℕ → List Syllable → Type 0
+AreGenerators n w = All (λ s. (1 ≤ s.generator) × (s.generator ≤ n)) w
+
+-- each generator is after place k
+abbrev pub AreLater : ℕ → List Syllable → Type 0
+AreLater k w = All (λ s. k < s.generator) w
+
+-- generators rise strictly, from after k on, and exponents are from 1 to p - 1
+abbrev pub is_normal_from : ℕ → ℕ → List Syllable → Bool
+is_normal_from p k [] = true
+is_normal_from p k (s ∷ w) = nat_lt k s.generator && (nat_lt 0 s.exponent && (nat_lt s.exponent p && is_normal_from p s.generator w))
+
+-- generators, which count from 1, rise strictly, and exponents are from 1 to p - 1
+abbrev pub IsNormalWord : ℕ → List Syllable → Type 0
+IsNormalWord p w = IsTrue (is_normal_from p 0 w)

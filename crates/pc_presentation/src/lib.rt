@@ -3,11 +3,13 @@
 //! Contracts see each of them as a record of lists, in which a word is the list of the exponents of its generators.
 #![tactic(auto)]
 
+pub mod builder;
 pub mod pcp;
 pub mod relation;
 mod store;
 pub mod syllable;
 
+pub use builder::{PcpBuilder, PcpRefusal};
 pub use pcp::Pcp;
 pub use relation::Relation;
 pub use syllable::Syllable;

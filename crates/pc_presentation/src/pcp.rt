@@ -1,15 +1,16 @@
 //! Presentations, with weights and tails.
 
-ghost use Rattle.std.specs.Prelude.{◌≡◌, ◌≤◌, ◌-◌, ℕ, List, get_or, length, IfOk};
+ghost use Rattle.std.specs.Prelude.{◌≡◌, ◌≤◌, ◌-◌, ℕ, List, get_or, length, IfOk, OnOk, OnErr};
 ghost use Rattle.pq_base.specs.Prime.{prime_value};
-ghost use Rattle.pc_presentation.specs.Syllable.{syllables_of};
-ghost use Rattle.pc_presentation.specs.Relation.{IsRelation, side_start};
-ghost use Rattle.pc_presentation.specs.Pcp.{IsTailedPresentation, right_side, tail_of};
+ghost use Rattle.pc_presentation.specs.Syllable.{syllables_of, AreSyllables};
+ghost use Rattle.pc_presentation.specs.Relation.{IsRelation, IsTail, side_start};
+ghost use Rattle.pc_presentation.specs.Pcp.{IsTailedPresentation, right_side, tail_of, with_relation, plain_presentation};
 
-use crate::relation::Relation;
+use crate::relation::{Relation, relation_count};
 use crate::store::Store;
 use crate::syllable::Syllable;
 use pq_base::{NoMemory, Prime};
+use std::alloc::Global;
 use std::marker::Model;
 
 /// A power-commutator presentation: its generators have weights, and each relation has a right side, in later generators,
@@ -81,6 +82,42 @@ impl Pcp {
         ensures { result ≡ tail_of self.now r }
     {
         self.relations.tail(r.number(self.weights.len()))
+    }
+
+    /// The presentation with empty right sides and no tails after them.
+    pub(crate) fn plain(
+        alloc: Global,
+        prime: Prime,
+        weights: &[u8],
+        tails: u16,
+    ) -> Result<Pcp, NoMemory>
+        requires { length weights.now ≤ 100 }
+        ensures { IfOk result (λ q. q ≡ plain_presentation (prime_value prime) weights.now tails) }
+    {
+        Ok(Pcp {
+            prime,
+            weights: Vec::from_slice(alloc, weights)?,
+            tails,
+            relations: Store::new(alloc, relation_count(weights.len()))?,
+        })
+    }
+
+    /// Puts a right side and a tail in place of those of a relation.
+    pub(crate) fn put(
+        &mut self,
+        r: Relation,
+        word: &[Syllable],
+        tail: Option<u16>,
+    ) -> Result<(), NoMemory>
+        requires relation { IsRelation self.old.presentation.rank r }
+        requires word { AreSyllables self.old.presentation.prime self.old.presentation.rank (side_start r) word.now }
+        requires tail { IsTail self.old.tails tail }
+        ensures ok { OnOk result (self.new ≡ with_relation self.old r word.now tail) }
+        ensures err { OnErr result (self.new ≡ self.old) }
+    {
+        let number = r.number(self.weights.len());
+        self.relations.put(number, word, tail)?;
+        Ok(())
     }
 
     /// An equal presentation.

@@ -1,7 +1,7 @@
 //! The relations of a presentation, by the numbers of their generators.
 
-ghost use Rattle.std.specs.Prelude.{◌≡◌, ℕ, ◌<◌, ◌≤◌};
-ghost use Rattle.pc_presentation.specs.Relation.{IsRelation, relation_number, relation_count, triangular};
+ghost use Rattle.std.specs.Prelude.{◌≡◌, ℕ, ◌<◌, ◌≤◌, ◌↔◌, IsTrue};
+ghost use Rattle.pc_presentation.specs.Relation.{IsRelation, side_start, relation_number, relation_count, triangular};
 
 /// A relation, named by its left side. Generators count from 1.
 #[derive(Clone, Copy, Debug, PartialEq, Eq)]
@@ -13,6 +13,26 @@ pub enum Relation {
 }
 
 impl Relation {
+    /// Whether this is a relation of `rank` generators.
+    pub(crate) fn is_of(self, rank: u16) -> bool
+        ensures { IsTrue result ↔ IsRelation rank self }
+    {
+        match self {
+            Relation::Power(i) => 1 <= i && i <= rank,
+            Relation::Commutator(j, i) => 1 <= i && i < j && j <= rank,
+        }
+    }
+
+    /// The generator after which those of the right side come.
+    pub(crate) fn leading(self) -> u16
+        ensures { result ≡ side_start self }
+    {
+        match self {
+            Relation::Power(i) => i,
+            Relation::Commutator(j, _) => j,
+        }
+    }
+
     /// The place of the relation among those of `rank` generators, counted from 0: the powers, then the commutators, row
     /// by row.
     pub(crate) fn number(self, rank: usize) -> usize

@@ -7,3 +7,5 @@ pub mod PutLaws
 pub mod PlainLaws
 pub mod WordTests
 pub mod BuilderLaws
+pub mod PartsLaws
+pub mod Conditions

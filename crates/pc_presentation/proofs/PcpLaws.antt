@@ -1,9 +1,9 @@
 -- What is kept of a presentation is one: entries with sparse words over later generators make a presentation with tails,
 -- whose right sides are those words.
-use Rattle.std.proofs.Common.{◌≡◌, ℕ, zero, suc, ◌+◌, ◌-◌, ◌<◌, ◌≤◌, Option, None, List, [], ◌∷◌, length, refl, ap, sym, ◌∙◌, subst, arith}
+use Rattle.std.proofs.Common.{◌≡◌, ℕ, zero, suc, ◌+◌, ◌-◌, ◌<◌, ◌≤◌, Option, None, List, [], ◌∷◌, length, refl, ap, sym, ◌∙◌, subst, arith, inl, inr}
 use Rattle.pq_base.specs.declared.prime.Prime.{Prime}
 use Rattle.pq_base.specs.declared.prime.Prime.TheVariants.{P2, P3, P5, P7}
-use Rattle.pq_base.specs.Prime.{prime_value}
+use Rattle.pq_base.specs.Prime.{prime_value, IsOffered}
 use Rattle.pq_base.specs.Table.{AllBelow}
 use Rattle.pq_base.specs.Presentation.{Presentation, IsPresentation, IsLaterSide, power_side, commutator_side}
 use Rattle.pc_presentation.specs.declared.syllable.Syllable.{Syllable}
@@ -16,11 +16,23 @@ use Rattle.pc_presentation.specs.Pcp.{TailedPresentation, IsTailedPresentation, 
 use Rattle.pc_presentation.proofs.SyllableLaws.{length-spread, AllBelow-spread, syllables_of-spread}
 use Rattle.pc_presentation.proofs.RelationTables.{entry_at-per_relation, per_relation-shape}
 
-pub prime_value-positive : (q : Prime) → 1 ≤ prime_value q
-prime_value-positive P2 = omega arith
-prime_value-positive P3 = omega arith
-prime_value-positive P5 = omega arith
-prime_value-positive P7 = omega arith
+pub prime_value-offered : (q : Prime) → IsOffered (prime_value q)
+prime_value-offered P2 = inl refl
+prime_value-offered P3 = inr (inl refl)
+prime_value-offered P5 = inr (inr (inl refl))
+prime_value-offered P7 = inr (inr (inr refl))
+
+pub offered-positive : (p : ℕ) → IsOffered p → 1 ≤ p
+offered-positive p h = elim h [
+  | inl two ↦ omega arith
+  | inr other ↦ elim other [
+    | inl three ↦ omega arith
+    | inr larger ↦ elim larger [
+      | inl five ↦ omega arith
+      | inr seven ↦ omega arith
+    ]
+  ]
+]
 
 one_less : (i : ℕ) → i ≡ suc i - 1
 one_less i = omega arith
@@ -66,13 +78,15 @@ module _ (p tails : ℕ) (weights : List ℕ) (entries : List Entry) where
             (AllBelow-spread p n (n - side_start r) (side_start r) (stored_at n entries r).word h (a.words r relation));
       }
 
-  pub tailed_presentation-is : AreEntries p (length weights) tails entries → 1 ≤ p → length weights ≤ 100
+  pub tailed_presentation-is : AreEntries p (length weights) tails entries → IsOffered p → length weights ≤ 100
       → IsTailedPresentation (tailed_presentation p weights tails entries)
-  tailed_presentation-is a h limit =
+  tailed_presentation-is a offered limit =
+      let h : 1 ≤ p = offered-positive p offered in
       let n : ℕ = length weights in
       let T : TailedPresentation = tailed_presentation p weights tails entries in
       let shape : HasShape n (per_relation n (side_of n entries)) = per_relation-shape n (side_of n entries) in
       record {
+        prime = offered;
         presentation = record {
           power_count = shape.power_count;
           power_sides = λ i l.

@@ -73,13 +73,6 @@ plain-tailed p tails m weights =
     ∙ ap (λ (t : PerRelation (Option ℕ)). from_tables p weights tails (zero_sides n) t)
     (per_relation_agree n (λ q. (stored_at n (replicate m blank) q).tail) (λ _. None) (λ r h. ap (λ (e : Entry). e.tail) (stored_blank m n r)))
 
-pub blank_entries-are : (p n tails : ℕ) → AreEntries p n tails (replicate (relation_count n) blank)
-blank_entries-are p n tails = record {
-  count = length-replicate (relation_count n) blank;
-  words = λ r h. subst (λ (e : Entry). AreSyllables p n (side_start r) e.word) (sym (stored_blank (relation_count n) n r)) tt;
-  in_range = λ r h. subst (λ (e : Entry). IsTail tails e.tail) (sym (stored_blank (relation_count n) n r)) tt;
-}
-
 pub no_flags : (n m : ℕ) → per_relation n (λ r. get_or (replicate m false) (relation_number n r) false) ≡ per_relation n (λ _. false)
 no_flags n m = per_relation_agree n (λ r. get_or (replicate m false) (relation_number n r) false) (λ _. false)
     (λ r h. get_or-replicate_same m (relation_number n r) false)

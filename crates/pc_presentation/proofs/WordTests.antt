@@ -82,3 +82,6 @@ normal_from-AreSyllables p n k (s ∷ w) a = from_normal_step p k s w (record {
   below = a.3;
   rest = normal_from-AreSyllables p n s.generator w a.4;
 })
+
+pub AreLater-zero : (n : ℕ) (w : List Syllable) → AreGenerators n w → AreLater 0 w
+AreLater-zero n w g = λ i d l. let range = g i d l in omega arith

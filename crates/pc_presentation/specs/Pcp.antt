@@ -2,6 +2,7 @@
 -- A tail stands for a central generator of order p that the relation's right side ends with.
 use Rattle.std.specs.Prelude.{◌≡◌, ◌<◌, ◌≤◌, ◌-◌, ℕ, zero, suc, List, [], ◌∷◌, get_or, length, map, Option, Some, None, replicate, cond, eqb}
 use Rattle.pq_base.specs.Presentation.{Presentation, IsPresentation}
+use Rattle.pq_base.specs.Prime.{IsOffered}
 use Rattle.pq_base.specs.Elementary.{elementary}
 use Rattle.pc_presentation.specs.declared.syllable.Syllable.{Syllable}
 use Rattle.pc_presentation.specs.declared.relation.Relation.{Relation}
@@ -70,6 +71,7 @@ plain_presentation p weights tails = record {
 }
 
 pub record IsTailedPresentation (T : TailedPresentation) : Type 0 where
+  pub prime : IsOffered T.presentation.prime
   pub presentation : IsPresentation T.presentation
   pub rank_limit : T.presentation.rank ≤ 100
   pub weight_count : length T.weights ≡ T.presentation.rank

@@ -1,6 +1,6 @@
 -- Sparse words: lists of syllables with rising generators, which stand for lists of exponents.
 -- Generators count from 1 in syllables, and places from 0: generator k + 1 is at place k.
-use Rattle.std.specs.Prelude.{◌<◌, ◌≤◌, ℕ, zero, suc, ℤ, pos, eqb, cond, List, [], ◌∷◌, ◌++◌, All, Bool, true, nat_lt, ◌&&◌, IsTrue}
+use Rattle.std.specs.Prelude.{◌≡◌, ◌<◌, ◌≤◌, ℕ, zero, suc, ℤ, pos, eqb, cond, List, [], ◌∷◌, ◌++◌, All, Bool, true, nat_lt, ◌&&◌, IsTrue}
 use Rattle.pq_base.specs.SignedWord.{copies}
 use Rattle.pc_presentation.specs.declared.syllable.Syllable.{Syllable}
 
@@ -54,3 +54,7 @@ is_normal_from p k (s ∷ w) = nat_lt k s.generator && (nat_lt 0 s.exponent && (
 -- generators, which count from 1, rise strictly, and exponents are from 1 to p - 1
 abbrev pub IsNormalWord : ℕ → List Syllable → Type 0
 IsNormalWord p w = IsTrue (is_normal_from p 0 w)
+
+-- the word is generator g alone, counted from 1
+abbrev pub IsGenerator : ℕ → List Syllable → Type 0
+IsGenerator g w = w ≡ syllable g 1 ∷ []

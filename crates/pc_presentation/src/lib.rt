@@ -3,13 +3,18 @@
 //! Contracts see each of them as a record of lists, in which a word is the list of the exponents of its generators.
 #![tactic(auto)]
 
+pub mod answer;
 pub mod builder;
+pub mod definition;
+mod parts;
 pub mod pcp;
 pub mod relation;
 mod store;
 pub mod syllable;
 
+pub use answer::Answer;
 pub use builder::{PcpBuilder, PcpRefusal};
+pub use definition::Definition;
 pub use pcp::Pcp;
 pub use relation::Relation;
 pub use syllable::Syllable;

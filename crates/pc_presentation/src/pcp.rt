@@ -68,6 +68,13 @@ impl Pcp {
         self.weights[i as usize - 1]
     }
 
+    /// The weights of all generators.
+    pub(crate) fn weights(&self) -> &[u8]
+        ensures { result.now ≡ self.now.weights }
+    {
+        self.weights.as_slice()
+    }
+
     /// The right side of a relation, as the syllables of the exponents that aren't 0.
     pub fn word(&self, r: Relation) -> &[Syllable]
         requires { IsRelation self.now.presentation.rank r }

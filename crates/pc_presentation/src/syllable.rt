@@ -1,7 +1,7 @@
 //! Syllables: the words of a presentation are lists of them.
 
 ghost use Rattle.std.specs.Prelude.{◌≡◌, ◌↔◌, IsTrue};
-ghost use Rattle.pc_presentation.specs.Syllable.{AreGenerators, AreLater, is_normal_from};
+ghost use Rattle.pc_presentation.specs.Syllable.{AreGenerators, AreLater, is_normal_from, AreSyllables, IsGenerator};
 
 /// A generator, counted from 1, to an exponent.
 #[derive(Clone, Copy, Debug, PartialEq, Eq)]
@@ -36,4 +36,21 @@ pub(crate) fn is_normal(word: &[Syllable], prime: u8) -> bool
         last = s.generator;
     }
     true
+}
+
+/// Whether the word is normal, over `rank` generators.
+pub(crate) fn are_syllables(word: &[Syllable], prime: u8, rank: u16) -> bool
+    ensures { IsTrue result ↔ AreSyllables prime rank 0 word.now }
+{
+    are_generators(word, rank) && is_normal(word, prime)
+}
+
+/// Whether the word is this generator alone.
+pub(crate) fn is_generator(word: &[Syllable], generator: u16) -> bool
+    ensures { IsTrue result ↔ IsGenerator generator word.now }
+{
+    match word {
+        [s] => s.generator == generator && s.exponent == 1,
+        _ => false,
+    }
 }

@@ -9,3 +9,5 @@ pub mod WordTests
 pub mod BuilderLaws
 pub mod PartsLaws
 pub mod Conditions
+pub mod TailRowLaws
+pub mod TrivialLaws

@@ -37,9 +37,12 @@ abbrev pub row_of : ℕ → Option ℕ → List ℕ
 row_of n None = replicate n 0
 row_of n (Some t) = unit_row n t
 
--- the row over the tails that a relation carries
-abbrev pub tail_row : TailedPresentation → Relation → List ℕ
-tail_row T r = row_of T.tails (tail_of T r)
+-- the row over the tails that each relation carries
+abbrev pub tail_rows : TailedPresentation → PerRelation (List ℕ)
+tail_rows T = record {
+  powers = map (row_of T.tails) T.tail_table.powers;
+  commutators = map (λ row. map (row_of T.tails) row) T.tail_table.commutators;
+}
 
 -- a table with exactly an entry for each relation of n generators
 pub record HasShape {X : Type 0} (n : ℕ) (t : PerRelation X) : Type 0 where

@@ -10,6 +10,7 @@ ghost use Rattle.pc_presentation.specs.Definition.{definition_of};
 ghost use Rattle.pc_presentation.specs.Parts.{words_of, answer_of, AreParts, trivial_answer};
 
 use crate::builder::PcpBuilder;
+use crate::copies::{empty_words, names_copied, words_copied};
 use crate::definition::Definition;
 use crate::parts::are_parts;
 use crate::pcp::Pcp;
@@ -62,6 +63,21 @@ impl Answer {
         })
     }
 
+    /// The answer without generators, of class 0, where each given generator has the empty word as its image.
+    pub fn trivial(alloc: Global, prime: Prime, names: &[Name]) -> Result<Answer, NoMemory>
+        requires some { 1 ≤ length names.now }
+        requires limit { length names.now ≤ 32 }
+        requires distinct { AreDistinct names.now }
+        ensures { IfOk result (λ a. a ≡ trivial_answer (prime_value prime) names.now) }
+    {
+        Ok(Answer {
+            pcp: PcpBuilder::new(alloc, prime, &[], 0)?.finish(),
+            names: names_copied(alloc, names)?,
+            definitions: Vec::new(alloc),
+            images: empty_words(alloc, names.len())?,
+        })
+    }
+
     /// The presentation. It has no tails.
     pub fn pcp(&self) -> &Pcp
         ensures presentation { result.now.presentation ≡ self.now.presentation }
@@ -106,5 +122,18 @@ impl Answer {
             Some(weight) => *weight,
             None => 0,
         }
+    }
+
+    /// An equal answer.
+    pub fn duplicate(&self) -> Result<Answer, NoMemory>
+        ensures { IfOk result (λ a. a ≡ self.now) }
+    {
+        let alloc = *self.names.allocator();
+        Ok(Answer {
+            pcp: self.pcp.duplicate()?,
+            names: names_copied(alloc, self.names.as_slice())?,
+            definitions: Vec::from_slice(alloc, self.definitions.as_slice())?,
+            images: words_copied(alloc, self.images.as_slice())?,
+        })
     }
 }

@@ -5,12 +5,15 @@
 
 pub mod answer;
 pub mod builder;
+mod copies;
 pub mod definition;
 mod parts;
 pub mod pcp;
 pub mod relation;
 mod store;
 pub mod syllable;
+#[cfg(test)]
+mod tests;
 
 pub use answer::Answer;
 pub use builder::{PcpBuilder, PcpRefusal};

@@ -1,0 +1,5 @@
+pub mod RowLaws
+pub mod PushLaws
+pub mod PlainRule
+pub mod RunLaws
+pub mod PlainRuns

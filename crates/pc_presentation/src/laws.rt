@@ -1,0 +1,1 @@
+//! Laws of collection: each function does nothing, and its clause is a theorem.

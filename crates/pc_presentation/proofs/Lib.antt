@@ -3,3 +3,11 @@ pub mod PushLaws
 pub mod PlainRule
 pub mod RunLaws
 pub mod PlainRuns
+pub mod StateProducts
+pub mod PassedStates
+pub mod RelationsAct
+pub mod StepShapes
+pub mod PassShapes
+pub mod AnyRun
+pub mod OverlapsFrom
+pub mod OverlapsAct

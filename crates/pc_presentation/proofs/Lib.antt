@@ -11,3 +11,7 @@ pub mod PassShapes
 pub mod AnyRun
 pub mod OverlapsFrom
 pub mod OverlapsAct
+pub mod FlatLaws
+pub mod StateGroup
+pub mod StateValues
+pub mod Reached

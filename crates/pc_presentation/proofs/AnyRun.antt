@@ -1,19 +1,19 @@
 -- Where the relations of the later generators act on their states, each run that pushes a letter on a state of one
 -- generator more ends where the plain rule does. Along the run the word keeps one of two shapes, each with a value.
-use Rattle.std.proofs.Common.{◌≡◌, ℕ, zero, suc, ◌+◌, ◌<◌, ◌≤◌, List, [], ◌∷◌, ◌++◌, map, replicate, refl, ap, sym, ◌∙◌, subst, arith, append_assoc, ◌⊎◌, inl, inr}
+use Rattle.std.proofs.Common.{◌≡◌, ℕ, zero, suc, ◌+◌, ◌<◌, List, [], ◌∷◌, ◌++◌, map, replicate, refl, ap, sym, ◌∙◌, subst, arith, append_assoc, inl, inr}
 use Rattle.std.proofs.lemmas.List.{map-append}
 use Rattle.std.proofs.lemmas.Bool.{cases_lt}
-use Rattle.pq_base.specs.Presentation.{Presentation, power_side, commutator_side}
+use Rattle.pq_base.specs.Presentation.{power_side, commutator_side}
 use Rattle.pc_presentation.specs.Rowed.{RowedPresentation, IsRowed, power_row, commutator_row, row_sum}
-use Rattle.pc_presentation.specs.Collection.{Configuration, State, IsState, Step, Run, identity, spelled, configuration_of, add_row, before, push_word, push_configuration}
+use Rattle.pc_presentation.specs.Collection.{Configuration, State, IsState, identity, spelled, configuration_of, add_row, before, push_word, push_configuration}
 use Rattle.pc_presentation.specs.Collection.Run.{stop, move}
-use Rattle.pc_presentation.proofs.RowLaws.{identity-state, add_row-add_row, row_sum-comm, IsBefore, is_before}
+use Rattle.pc_presentation.proofs.RowLaws.{identity-state, add_row-add_row, row_sum-comm, is_before}
 use Rattle.pc_presentation.proofs.PushLaws.{push_word-append, push_word-add_row, push_word-keeps, step-acts}
 use Rattle.pc_presentation.proofs.PlainRule.{plain, plain-later, plain-rides, plain-state, spelled-suc, push-configuration_of}
 use Rattle.pc_presentation.proofs.RunLaws.{ReplacementFrom, RunFrom}
 use Rattle.pc_presentation.proofs.StateProducts.{RelationsAct, push_configuration-snoc}
-use Rattle.pc_presentation.proofs.PassedStates.{past, passed, full_power, past-state, full_power-state, first-raise, first-full}
-use Rattle.pc_presentation.proofs.StepShapes.{StepAt, IsIrreducible, LaterStep, step-suffix, step-behind, map-injective, spelled-irreducible, PlacedStep, placed_step, step_of_place}
+use Rattle.pc_presentation.proofs.PassedStates.{past, full_power, past-state, full_power-state, first-raise, first-full}
+use Rattle.pc_presentation.proofs.StepShapes.{StepAt, IsIrreducible, step-suffix, step-behind, map-injective, spelled-irreducible, PlacedStep, placed_step, step_of_place}
 use Rattle.pc_presentation.proofs.PassShapes.{late, LateStep, late_step}
 use Rattle.pc_presentation.proofs.PassShapes.LateStep.{inside, passes, full}
 

@@ -1,10 +1,9 @@
 -- The flat reading of a presentation with rows is a presentation: a right side is followed by its row, and the right
 -- sides of tails are empty. A presentation without rows is its own flat reading.
-use Rattle.std.proofs.Common.{◌≡◌, ℕ, zero, suc, ◌+◌, ◌-◌, ◌<◌, ◌≤◌, List, [], ◌∷◌, ◌++◌, get_or, length, map, replicate, refl, ap, sym, ◌∙◌, subst, arith, inl, inr, length-append}
-use Rattle.std.proofs.lemmas.List.{append-nil, length-replicate, length-map, get_or-replicate, get_or_append_left, get_or-append-add, get_or_default}
+use Rattle.std.proofs.Common.{◌≡◌, ℕ, zero, suc, ◌+◌, ◌-◌, ◌<◌, List, [], ◌∷◌, ◌++◌, get_or, length, map, replicate, refl, ap, sym, ◌∙◌, subst, arith, inl, inr, length-append}
+use Rattle.std.proofs.lemmas.List.{append-nil, length-replicate, length-map, get_or-replicate, get_or_append_left, get_or-append-add}
 use Rattle.std.proofs.lemmas.Bool.{cases_lt}
 use Rattle.std.proofs.Math.ListN.{get_or-map}
-use Rattle.pq_base.specs.Table.{AllBelow}
 use Rattle.pq_base.specs.Presentation.{Presentation, IsPresentation, IsLaterSide, IsNormal, power_side, commutator_side}
 use Rattle.pc_presentation.specs.Rowed.{RowedPresentation, IsRowed, power_row, commutator_row, without_rows, followed_by, tables_followed_by, tail_powers, tail_commutators, flat}
 use Rattle.pc_presentation.proofs.RowLaws.{AllBelow-zeros}

@@ -15,3 +15,4 @@ pub mod FlatLaws
 pub mod StateGroup
 pub mod StateValues
 pub mod Reached
+pub mod Consistency

@@ -1,18 +1,18 @@
 -- Overlaps that agree by some chains of pushes make the relations of the presentation act: by going down the generators,
 -- where each overlap whose least generator is the one at place k gives one of the facts that the step wants.
-use Rattle.std.proofs.Common.{◌≡◌, ℕ, zero, suc, pred, ◌+◌, ◌-◌, ◌<◌, ◌≤◌, List, [], ◌∷◌, ◌++◌, length, map, drop, replicate, refl, ap, sym, ◌∙◌, subst, arith, append_assoc, inl, inr}
-use Rattle.std.proofs.lemmas.List.{map-append, replicate-append-replicate, length-replicate, append-nil}
+use Rattle.std.proofs.Common.{◌≡◌, ℕ, zero, suc, pred, ◌+◌, ◌-◌, ◌<◌, ◌≤◌, List, [], ◌∷◌, ◌++◌, length, map, drop, replicate, refl, ap, sym, ◌∙◌, subst, arith}
+use Rattle.std.proofs.lemmas.List.{replicate-append-replicate, length-replicate, append-nil}
 use Rattle.pq_base.specs.Table.{AllBelow}
-use Rattle.pq_base.specs.Presentation.{Presentation, IsNormal, power_side, commutator_side}
+use Rattle.pq_base.specs.Presentation.{IsNormal, power_side, commutator_side}
 use Rattle.pc_presentation.specs.Rowed.{RowedPresentation, IsRowed, power_row, commutator_row}
 use Rattle.pc_presentation.specs.Collection.{State, IsState, identity, spelled, add_row, before, push_word}
 use Rattle.pc_presentation.proofs.RowLaws.{row_sum-zeros, identity-state, AllBelow-zeros}
-use Rattle.pc_presentation.proofs.PushLaws.{Acts, push_word-append, push_word-add_row, push_word-keeps}
-use Rattle.pc_presentation.proofs.PlainRule.{plain, plain-later, plain-later_word, plain-rides, plain-state, plain-spelled, spelled-suc, spelled-zeros, map-replicate}
+use Rattle.pc_presentation.proofs.PushLaws.{Acts, push_word-append, push_word-keeps}
+use Rattle.pc_presentation.proofs.PlainRule.{plain, plain-later, plain-later_word, plain-state, plain-spelled, spelled-suc, spelled-zeros, map-replicate}
 use Rattle.pc_presentation.proofs.RunLaws.{ReplacementFrom}
 use Rattle.pc_presentation.proofs.RunLaws.ReplacementFrom.{swap_from, power_from}
 use Rattle.pc_presentation.proofs.StateProducts.{star, RelationsAct, star-identity_left, star-identity_right, star-add_row}
-use Rattle.pc_presentation.proofs.PassedStates.{past, passed, passed_times, full_power, past-state, past-rides, passed-state, passed-identity, passed-add_row, passed_times-identity, passed_times-add, passed_times-state, full_power-state, first-raise, first-times, first-carry, past-word, power-end}
+use Rattle.pc_presentation.proofs.PassedStates.{past, passed, passed_times, full_power, past-state, passed-identity, passed-add_row, passed_times-identity, passed_times-add, passed_times-state, full_power-state, first-raise, first-times, first-carry, past-word, power-end}
 use Rattle.pc_presentation.proofs.RelationsAct.{relations-act}
 use Rattle.pc_presentation.proofs.OverlapsFrom.{OverlapFrom, AllAgreeFrom, agree-later, agree-plainly}
 use Rattle.pc_presentation.proofs.OverlapsFrom.OverlapFrom.{triple_from, left_from, right_from, own_from}

@@ -1,17 +1,16 @@
 -- The overlaps of the generators from place k on, and their agreement. They are overlaps of the generators from the place
 -- before, and chains of pushes of later letters there are chains of pushes here.
-use Rattle.std.proofs.Common.{◌≡◌, ℕ, zero, suc, pred, ◌+◌, ◌<◌, ◌≤◌, List, [], ◌∷◌, ◌++◌, map, replicate, refl, ap, sym, ◌∙◌, subst, arith, append_assoc, drop, inl, inr}
+use Rattle.std.proofs.Common.{◌≡◌, ℕ, suc, pred, ◌+◌, ◌<◌, List, [], ◌∷◌, ◌++◌, map, replicate, refl, ap, sym, ◌∙◌, subst, arith, drop}
 use Rattle.std.proofs.lemmas.List.{map-append}
-use Rattle.pq_base.specs.Presentation.{Presentation, power_side, commutator_side}
+use Rattle.pq_base.specs.Presentation.{power_side, commutator_side}
 use Rattle.pc_presentation.specs.Rowed.{RowedPresentation, IsRowed, power_row, commutator_row, row_sum}
-use Rattle.pc_presentation.specs.Collection.{Configuration, State, IsState, Run, identity, spelled, configuration_of, add_row, before, push_word}
+use Rattle.pc_presentation.specs.Collection.{Configuration, State, IsState, identity, spelled, configuration_of, add_row, before, push_word}
 use Rattle.pc_presentation.specs.Collection.Run.{stop, move}
-use Rattle.pc_presentation.proofs.RowLaws.{IsBefore, is_before}
-use Rattle.pc_presentation.proofs.PlainRule.{plain, plain-state, spelled-suc, map-replicate}
-use Rattle.pc_presentation.proofs.RunLaws.{ReplacementFrom, RunFrom, later}
-use Rattle.pc_presentation.proofs.RunLaws.ReplacementFrom.{swap_from, power_from}
+use Rattle.pc_presentation.proofs.RowLaws.{is_before}
+use Rattle.pc_presentation.proofs.PlainRule.{plain, spelled-suc, map-replicate}
+use Rattle.pc_presentation.proofs.RunLaws.{RunFrom, later}
 use Rattle.pc_presentation.proofs.StateProducts.{RelationsAct}
-use Rattle.pc_presentation.proofs.StepShapes.{StepAt, LaterStep, step-later, PlacedStep, placed_step, step_of_place}
+use Rattle.pc_presentation.proofs.StepShapes.{StepAt, step-later, placed_step, step_of_place}
 use Rattle.pc_presentation.proofs.AnyRun.{any_run, same_behind}
 
 -- both ways begin with a; then the one goes on with l, and the other with r and the row t

@@ -1,14 +1,14 @@
 -- The replacements in a word that has one late copy of the first generator: between the letters behind it, of the pair
 -- that the letter before it makes with it, or of the full power that it completes.
-use Rattle.std.proofs.Common.{◌≡◌, ℕ, zero, suc, ◌+◌, ◌<◌, ◌≤◌, List, [], ◌∷◌, ◌++◌, map, replicate, refl, ap, sym, ◌∙◌, subst, arith, append_assoc, ◌⊎◌, inl, inr}
+use Rattle.std.proofs.Common.{◌≡◌, ℕ, zero, suc, ◌+◌, ◌<◌, List, [], ◌∷◌, ◌++◌, map, replicate, refl, ap, sym, ◌∙◌, arith, inl, inr}
 use Rattle.std.proofs.lemmas.List.{map-append}
-use Rattle.pq_base.specs.Presentation.{Presentation, power_side, commutator_side}
+use Rattle.pq_base.specs.Presentation.{power_side, commutator_side}
 use Rattle.pc_presentation.specs.Rowed.{RowedPresentation, power_row, commutator_row}
 use Rattle.pc_presentation.specs.Collection.{spelled}
 use Rattle.pc_presentation.proofs.PlainRule.{spelled-suc}
 use Rattle.pc_presentation.proofs.RunLaws.{ReplacementFrom}
 use Rattle.pc_presentation.proofs.RunLaws.ReplacementFrom.{swap_from, power_from}
-use Rattle.pc_presentation.proofs.StepShapes.{StepAt, IsIrreducible, AtFront, Behind, first_letter, step-prefix, step-later, front_zero}
+use Rattle.pc_presentation.proofs.StepShapes.{StepAt, IsIrreducible, AtFront, first_letter, step-prefix, step-later, front_zero}
 
 -- e copies of the first generator, the later letters v, the first generator, the later letters u
 abbrev pub late : ℕ → List ℕ → List ℕ → List ℕ

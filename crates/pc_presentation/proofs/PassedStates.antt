@@ -1,16 +1,16 @@
 -- One generator more: what becomes of a state of the later generators where the generator at place k passes it. Where the
 -- relations of the later generators act there, and also on passed states, passing keeps products.
-use Rattle.std.proofs.Common.{◌≡◌, ℕ, zero, suc, ◌+◌, ◌<◌, ◌≤◌, List, [], ◌∷◌, ◌++◌, map, replicate, refl, ap, sym, ◌∙◌, subst, arith, inl, inr}
+use Rattle.std.proofs.Common.{◌≡◌, ℕ, zero, suc, ◌+◌, ◌<◌, List, [], ◌∷◌, replicate, refl, ap, sym, ◌∙◌, subst, arith}
 use Rattle.pq_base.specs.Table.{AllBelow}
-use Rattle.pq_base.specs.Presentation.{Presentation, IsNormal, power_side}
-use Rattle.pc_presentation.specs.Rowed.{RowedPresentation, IsRowed, row_sum, power_row}
-use Rattle.pc_presentation.specs.Collection.{Configuration, State, IsState, identity, spelled, configuration_of, add_row, before, push_word, push_configuration, push_power, push_past}
-use Rattle.pc_presentation.proofs.RowLaws.{zeros-row_sum, add_row-add_row, identity-state, add_row-state}
-use Rattle.pc_presentation.proofs.PushLaws.{Rides, Acts, push_word-append, push_word-add_row, push_configuration-add_row, push_word-keeps, run-acts}
-use Rattle.pc_presentation.proofs.PlainRule.{plain, plain-later_word, spelled-suc, plain-raise, plain-carry, plain-rides, plain-state, push_past-rides, push_past-state, push_power-state, push-configuration_of}
+use Rattle.pq_base.specs.Presentation.{IsNormal, power_side}
+use Rattle.pc_presentation.specs.Rowed.{RowedPresentation, IsRowed, power_row}
+use Rattle.pc_presentation.specs.Collection.{State, IsState, identity, spelled, configuration_of, add_row, before, push_word, push_configuration, push_power, push_past}
+use Rattle.pc_presentation.proofs.RowLaws.{zeros-row_sum, add_row-add_row, identity-state}
+use Rattle.pc_presentation.proofs.PushLaws.{Rides, Acts, push_word-add_row, push_configuration-add_row, push_word-keeps, run-acts}
+use Rattle.pc_presentation.proofs.PlainRule.{plain, plain-later_word, spelled-suc, plain-raise, plain-carry, plain-rides, plain-state, push_past-rides, push_past-state, push_power-state}
 use Rattle.pc_presentation.proofs.RunLaws.{ReplacementFrom}
 use Rattle.pc_presentation.proofs.PlainRuns.{plain-run, AllBelow-spelled}
-use Rattle.pc_presentation.proofs.StateProducts.{star, RelationsAct, star-identity_left, star-identity_right, push_configuration-identity, star-add_row, push_configuration-snoc, push_configuration-state, star-state, star-push_power, star-push_past, star-assoc, push_word-star, push-star}
+use Rattle.pc_presentation.proofs.StateProducts.{star, RelationsAct, star-identity_left, star-identity_right, push_configuration-identity, star-add_row, push_configuration-snoc, push_configuration-state, star-push_power, star-push_past, star-assoc, push_word-star, push-star}
 
 -- a letter of the later generators, passed
 abbrev pub past : RowedPresentation → ℕ → ℕ → State → ℕ → State

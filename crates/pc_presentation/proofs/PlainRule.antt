@@ -1,13 +1,13 @@
 -- The plain rule clause by clause. Rows ride along a push, earlier exponents are final, and the letters of a state
 -- pushed on the state of zeros give the state.
-use Rattle.std.proofs.Common.{◌≡◌, ℕ, zero, suc, ◌+◌, ◌<◌, ◌≤◌, Bool, true, false, eqb, List, [], ◌∷◌, ◌++◌, length, map, replicate, refl, ap, sym, ◌∙◌, subst, arith, inl, inr}
+use Rattle.std.proofs.Common.{◌≡◌, ℕ, zero, suc, ◌+◌, ◌<◌, ◌≤◌, Bool, true, false, eqb, List, [], ◌∷◌, ◌++◌, map, replicate, refl, ap, sym, ◌∙◌, subst, arith, inl, inr}
 use Rattle.std.proofs.lemmas.List.{map-append}
 use Rattle.std.proofs.lemmas.Bool.{cases_lt, eq-eqb}
 use Rattle.std.proofs.lemmas.Bool.Decides.{eqb_tells}
-use Rattle.pq_base.specs.Presentation.{Presentation, IsNormal, power_side, commutator_side}
+use Rattle.pq_base.specs.Presentation.{IsNormal, power_side, commutator_side}
 use Rattle.pc_presentation.specs.Rowed.{RowedPresentation, IsRowed, power_row, commutator_row, row_sum}
-use Rattle.pc_presentation.specs.Collection.{Configuration, State, IsState, identity, spelled, add_row, before, push_word, push_configuration, push_power, push_past, raise, plain_push_from, plain_push}
-use Rattle.pc_presentation.proofs.RowLaws.{add_row-swap, row_sum-comm, zeros-row_sum, add_row-state, before-state, identity-state, zeros-normal, power_row-addable, commutator_row-addable, IsBefore, is_before}
+use Rattle.pc_presentation.specs.Collection.{Configuration, State, IsState, identity, spelled, add_row, before, push_word, push_configuration, push_power, push_past, raise, plain_push_from}
+use Rattle.pc_presentation.proofs.RowLaws.{zeros-row_sum, add_row-state, before-state, zeros-normal, power_row-addable, commutator_row-addable, is_before}
 use Rattle.pc_presentation.proofs.PushLaws.{Rides, push_word-append, push_word-add_row, push_configuration-add_row, push_word-keeps}
 
 -- the plain rule on states, with n generators from place k on

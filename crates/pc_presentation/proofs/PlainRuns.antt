@@ -4,14 +4,14 @@ use Rattle.std.proofs.Common.{◌≡◌, ℕ, zero, suc, ◌+◌, ◌<◌, ◌�
 use Rattle.std.proofs.lemmas.List.{map-append, append-nil}
 use Rattle.std.proofs.lemmas.Bool.{cases_lt}
 use Rattle.pq_base.specs.Table.{AllBelow}
-use Rattle.pq_base.specs.Presentation.{Presentation, IsPresentation, power_side, commutator_side}
+use Rattle.pq_base.specs.Presentation.{power_side, commutator_side}
 use Rattle.pc_presentation.specs.Rowed.{RowedPresentation, IsRowed, power_row, commutator_row, row_sum}
 use Rattle.pc_presentation.specs.Collection.{Configuration, State, IsState, spelled, configuration_of, add_row, before, push_word, push_power, push_past, plain_push, DirectedRun}
-use Rattle.pc_presentation.specs.Collection.Run.{stop, move}
-use Rattle.pc_presentation.proofs.RowLaws.{row_sum-nil, row_sum-comm, row_sum-assoc, add_row-swap, add_row-add_row, IsBefore, is_before, zeros-normal, row_sum-addable, commutator_row-addable, power_row-addable, IsAddable}
-use Rattle.pc_presentation.proofs.PushLaws.{Rides, push_word-append, push_word-add_row, push_word-keeps}
+use Rattle.pc_presentation.specs.Collection.Run.{stop}
+use Rattle.pc_presentation.proofs.RowLaws.{row_sum-nil, row_sum-comm, row_sum-assoc, add_row-swap, add_row-add_row, is_before, zeros-normal, row_sum-addable, commutator_row-addable, power_row-addable, IsAddable}
+use Rattle.pc_presentation.proofs.PushLaws.{Rides, push_word-append, push_word-add_row}
 use Rattle.pc_presentation.proofs.PlainRule.{plain, plain-later, plain-raise, plain-carry, plain-rides, plain-state, spelled-suc, spelled-zeros}
-use Rattle.pc_presentation.proofs.RunLaws.{RunFrom, ReplacementFrom, replacement_at_start, run-trans, run-prefix, run-suffix, run-replacement, run-later, run-weaken, later}
+use Rattle.pc_presentation.proofs.RunLaws.{RunFrom, replacement_at_start, run-trans, run-prefix, run-suffix, run-replacement, run-later, run-weaken}
 use Rattle.pc_presentation.proofs.RunLaws.ReplacementFrom.{swap_from, power_from}
 
 -- letters below a number

@@ -1,8 +1,8 @@
 -- What holds of pushing letters one after the other, whatever a push of one letter is: rows ride along where they do at
 -- one letter, and where the sides of each replacement act equally, so do the ends of each run.
-use Rattle.std.proofs.Common.{◌≡◌, ℕ, zero, suc, ◌+◌, ◌<◌, List, [], ◌∷◌, ◌++◌, map, replicate, refl, ap, sym, ◌∙◌, subst, arith}
-use Rattle.pc_presentation.specs.Rowed.{RowedPresentation, row_sum}
-use Rattle.pc_presentation.specs.Collection.{Configuration, State, Step, Run, add_row, before, push_word, push_configuration}
+use Rattle.std.proofs.Common.{◌≡◌, ℕ, List, [], ◌∷◌, ◌++◌, refl, ap, sym, ◌∙◌}
+use Rattle.pc_presentation.specs.Rowed.{RowedPresentation}
+use Rattle.pc_presentation.specs.Collection.{Configuration, State, Step, Run, add_row, push_word, push_configuration}
 use Rattle.pc_presentation.specs.Collection.Step.{replace}
 use Rattle.pc_presentation.specs.Collection.Run.{stop, move}
 use Rattle.pc_presentation.proofs.RowLaws.{row_sum-comm, add_row-swap, add_row-add_row}

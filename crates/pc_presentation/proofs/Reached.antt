@@ -1,14 +1,14 @@
 -- A directed run joins the words of its ends, so in every presentation each signed word is joined to a normal word: the
 -- inverse of a generator is joined to the word of a state, and the product of states to the words one after the other.
-use Rattle.std.proofs.Common.{◌≡◌, ℕ, zero, suc, ◌+◌, ◌<◌, ◌≤◌, ℤ, pos, negsuc, List, [], ◌∷◌, ◌++◌, length, replicate, refl, ap, sym, ◌∙◌, subst, arith, append_assoc}
+use Rattle.std.proofs.Common.{◌≡◌, ℕ, zero, suc, ◌<◌, ℤ, pos, negsuc, List, [], ◌∷◌, ◌++◌, ap, sym, ◌∙◌, subst, arith, append_assoc}
 use Rattle.std.proofs.lemmas.List.{append-nil}
-use Rattle.pq_base.specs.SignedWord.{inv, copies, HasLetters}
+use Rattle.pq_base.specs.SignedWord.{copies, HasLetters}
 use Rattle.pq_base.specs.Table.{AllBelow}
-use Rattle.pq_base.specs.Presentation.{Presentation, IsPresentation, letter, normal_word, power_side, commutator_side}
+use Rattle.pq_base.specs.Presentation.{Presentation, IsPresentation, letter, power_side, commutator_side}
 use Rattle.pq_base.specs.Joined.{Joined, Reaches}
 use Rattle.pq_base.proofs.JoinedLaws.{joined-refl, joined-sym, joined-trans, joined-from_equal, joined-append, joined-append_left, joined-append_right, joined-solve_right, power-joined, letter-swap-joined}
 use Rattle.pc_presentation.specs.Rowed.{RowedPresentation, IsRowed, without_rows}
-use Rattle.pc_presentation.specs.Collection.{Configuration, State, IsState, Step, Run, Replacement, DirectedRun, identity, spelled, letters, push_word}
+use Rattle.pc_presentation.specs.Collection.{Configuration, State, IsState, Step, Replacement, DirectedRun, identity, spelled, letters, push_word}
 use Rattle.pc_presentation.specs.Collection.Step.{replace}
 use Rattle.pc_presentation.specs.Collection.Run.{stop, move}
 use Rattle.pc_presentation.specs.Collection.Replacement.{swap, power}
@@ -16,7 +16,7 @@ use Rattle.pc_presentation.proofs.RowLaws.{identity-state}
 use Rattle.pc_presentation.proofs.PlainRule.{plain, plain-state, spelled-zeros}
 use Rattle.pc_presentation.proofs.PlainRuns.{plain_push-run, AllBelow-spelled}
 use Rattle.pc_presentation.proofs.StateProducts.{star, star-state}
-use Rattle.pc_presentation.proofs.StateGroup.{RightInverse, right_inverse}
+use Rattle.pc_presentation.proofs.StateGroup.{right_inverse}
 use Rattle.pc_presentation.proofs.StateValues.{letters-append, letters-replicate, letters-spelled}
 use Rattle.pc_presentation.proofs.FlatLaws.{without_rows-rowed}
 

@@ -1,17 +1,17 @@
 -- The step to one generator more: where the relations of the later generators act on their states, also on passed ones,
 -- where the full power turns each generator round and is passed unchanged, the relations of all these generators act.
-use Rattle.std.proofs.Common.{◌≡◌, ℕ, zero, suc, ◌+◌, ◌-◌, ◌<◌, ◌≤◌, List, [], ◌∷◌, ◌++◌, map, replicate, refl, ap, sym, ◌∙◌, subst, arith, inl, inr}
+use Rattle.std.proofs.Common.{◌≡◌, ℕ, zero, suc, ◌+◌, ◌-◌, ◌<◌, List, [], ◌∷◌, ◌++◌, map, replicate, refl, ap, sym, ◌∙◌, subst, arith, inl, inr}
 use Rattle.std.proofs.lemmas.List.{replicate-append-replicate}
 use Rattle.std.proofs.lemmas.Bool.{cases_lt}
-use Rattle.pq_base.specs.Presentation.{Presentation, power_side, commutator_side}
+use Rattle.pq_base.specs.Presentation.{power_side, commutator_side}
 use Rattle.pc_presentation.specs.Rowed.{RowedPresentation, IsRowed, power_row, commutator_row}
-use Rattle.pc_presentation.specs.Collection.{State, IsState, identity, spelled, add_row, before, push_word, push_power}
-use Rattle.pc_presentation.proofs.RowLaws.{identity-state, IsBefore, is_before}
+use Rattle.pc_presentation.specs.Collection.{State, IsState, identity, spelled, add_row, before, push_word}
+use Rattle.pc_presentation.proofs.RowLaws.{is_before}
 use Rattle.pc_presentation.proofs.PushLaws.{Acts, push_word-append}
 use Rattle.pc_presentation.proofs.PlainRule.{plain, plain-later, plain-later_word, plain-state, spelled-suc, map-replicate}
 use Rattle.pc_presentation.proofs.RunLaws.{ReplacementFrom}
 use Rattle.pc_presentation.proofs.RunLaws.ReplacementFrom.{swap_from, power_from}
-use Rattle.pc_presentation.proofs.StateProducts.{star, star-state, RelationsAct, star-identity_right, star-push_past, star-push_power}
+use Rattle.pc_presentation.proofs.StateProducts.{star, star-state, RelationsAct, star-push_past}
 use Rattle.pc_presentation.proofs.PassedStates.{power-end, past, passed, passed_times, full_power, passed-state, full_power-state, passed_times-state, passed_times-add, first-raise, first-times, first-carry, passed-push, passed_times-star, full_power-turns}
 
 module _ (Y : RowedPresentation) (rowed : IsRowed Y) (positive : 0 < Y.base.prime) (n k : ℕ) (size : suc k + n ≡ Y.base.rank)

@@ -6,7 +6,7 @@ use Rattle.std.proofs.lemmas.Bool.{cases_lt}
 use Rattle.std.proofs.Math.Nat.{add-mod-mod, mod-add-mod, add-zero}
 use Rattle.std.proofs.Math.ListN.{get_or-eq_default}
 use Rattle.pq_base.specs.Table.{AllBelow}
-use Rattle.pq_base.specs.Presentation.{Presentation, IsNormal}
+use Rattle.pq_base.specs.Presentation.{IsNormal}
 use Rattle.pc_presentation.specs.Rowed.{RowedPresentation, IsRowed, power_row, commutator_row, row_sum}
 use Rattle.pc_presentation.specs.Collection.{State, IsState, add_row, before, identity}
 

@@ -1,10 +1,10 @@
 -- Runs of replacements compose, and go on inside a longer word and beside a further row. The replacements between the
 -- generators from place k on are replacements between those from an earlier place on.
-use Rattle.std.proofs.Common.{◌≡◌, ℕ, zero, suc, ◌+◌, ◌<◌, ◌≤◌, List, [], ◌∷◌, ◌++◌, length, map, replicate, refl, ap, sym, ◌∙◌, subst, arith, append_assoc}
-use Rattle.std.proofs.lemmas.List.{map-append, append-nil}
-use Rattle.pq_base.specs.Presentation.{Presentation, power_side, commutator_side}
+use Rattle.std.proofs.Common.{◌≡◌, ℕ, suc, ◌+◌, ◌<◌, List, [], ◌∷◌, ◌++◌, map, replicate, sym, subst, arith, append_assoc}
+use Rattle.std.proofs.lemmas.List.{map-append}
+use Rattle.pq_base.specs.Presentation.{power_side, commutator_side}
 use Rattle.pc_presentation.specs.Rowed.{RowedPresentation, power_row, commutator_row, row_sum}
-use Rattle.pc_presentation.specs.Collection.{Configuration, Step, Run, Replacement, DirectedRun, spelled}
+use Rattle.pc_presentation.specs.Collection.{Configuration, Step, Run, Replacement, spelled}
 use Rattle.pc_presentation.specs.Collection.Step.{replace}
 use Rattle.pc_presentation.specs.Collection.Run.{stop, move}
 use Rattle.pc_presentation.specs.Collection.Replacement.{swap, power}

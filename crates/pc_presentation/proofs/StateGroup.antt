@@ -1,15 +1,15 @@
 -- Where the relations act, the states are a group.
-use Rattle.std.proofs.Common.{◌≡◌, ℕ, zero, suc, ◌+◌, ◌-◌, ◌%◌, ◌<◌, ◌≤◌, List, [], ◌∷◌, ◌++◌, length, replicate, refl, ap, sym, ◌∙◌, subst, arith, inl, inr}
-use Rattle.std.proofs.Math.Nat.{mod_self, zero-mod, add-mod-mod}
+use Rattle.std.proofs.Common.{◌≡◌, ℕ, zero, suc, ◌+◌, ◌-◌, ◌%◌, ◌<◌, List, [], ◌∷◌, length, replicate, refl, ap, sym, ◌∙◌, subst, arith, inl, inr}
+use Rattle.std.proofs.Math.Nat.{mod_self, add-mod-mod}
 use Rattle.std.proofs.lemmas.Bool.{cases_lt}
 use Rattle.pq_base.specs.Table.{AllBelow}
-use Rattle.pq_base.specs.Presentation.{Presentation, IsNormal}
+use Rattle.pq_base.specs.Presentation.{IsNormal}
 use Rattle.pq_base.proofs.Groups.{Group}
 use Rattle.pc_presentation.specs.Rowed.{RowedPresentation, IsRowed, row_sum}
 use Rattle.pc_presentation.specs.Collection.{State, IsState, identity, spelled, add_row, before, push_word, push_configuration, configuration_of}
-use Rattle.pc_presentation.proofs.RowLaws.{identity-state, before-state, IsBefore, is_before}
+use Rattle.pc_presentation.proofs.RowLaws.{identity-state, before-state, is_before}
 use Rattle.pc_presentation.proofs.PushLaws.{push_word-append}
-use Rattle.pc_presentation.proofs.PlainRule.{plain, plain-raise, plain-carry, plain-later_word, plain-state, spelled-suc}
+use Rattle.pc_presentation.proofs.PlainRule.{plain, plain-later_word, spelled-suc}
 use Rattle.pc_presentation.proofs.StateProducts.{star, RelationsAct, star-identity_left, star-identity_right, star-state, star-assoc, push_configuration-state}
 use Rattle.pc_presentation.proofs.PassedStates.{past, past-state, full_power-state, passed, full_power, first-raise, first-full, passed-state}
 

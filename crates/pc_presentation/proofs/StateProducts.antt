@@ -1,14 +1,14 @@
 -- Where the sides of each relation act equally on states, states with their product, the letters and the row of the one
 -- pushed on the other, are a monoid, and products on the left go through pushes.
-use Rattle.std.proofs.Common.{◌≡◌, ℕ, zero, suc, ◌+◌, ◌<◌, ◌≤◌, List, [], ◌∷◌, ◌++◌, replicate, refl, ap, sym, ◌∙◌, subst, arith, inl, inr}
+use Rattle.std.proofs.Common.{◌≡◌, ℕ, suc, ◌+◌, ◌<◌, List, [], ◌∷◌, ◌++◌, replicate, refl, ap, sym, ◌∙◌, inl, inr}
 use Rattle.std.proofs.lemmas.Bool.{cases_lt}
-use Rattle.pq_base.specs.Presentation.{Presentation, IsNormal, power_side, commutator_side}
-use Rattle.pc_presentation.specs.Rowed.{RowedPresentation, IsRowed, power_row, commutator_row, row_sum}
-use Rattle.pc_presentation.specs.Collection.{Configuration, State, IsState, identity, spelled, configuration_of, add_row, before, push_word, push_configuration, push_power, push_past}
+use Rattle.pq_base.specs.Presentation.{power_side, commutator_side}
+use Rattle.pc_presentation.specs.Rowed.{RowedPresentation, IsRowed, power_row, commutator_row}
+use Rattle.pc_presentation.specs.Collection.{Configuration, State, IsState, identity, spelled, configuration_of, add_row, push_word, push_configuration, push_power, push_past}
 use Rattle.pc_presentation.proofs.RowLaws.{row_sum-zeros, add_row-add_row, add_row-state, identity-state}
-use Rattle.pc_presentation.proofs.PushLaws.{Rides, Acts, push_word-append, push_word-add_row, push_word-keeps, run-acts}
+use Rattle.pc_presentation.proofs.PushLaws.{Rides, Acts, push_word-append, push_word-keeps, run-acts}
 use Rattle.pc_presentation.proofs.PlainRule.{plain, plain-rides, plain-state, plain-past_end, spelled-zeros, push-configuration_of}
-use Rattle.pc_presentation.proofs.RunLaws.{ReplacementFrom, RunFrom}
+use Rattle.pc_presentation.proofs.RunLaws.{ReplacementFrom}
 use Rattle.pc_presentation.proofs.PlainRuns.{plain-run}
 
 -- the product of states of n generators from place k on

@@ -1,15 +1,15 @@
 -- Where the relations act, the generators and the tails are states at which each relator of the flat reading has value
 -- one, and the value of a normal word is the state of its exponents. So joined normal words are equal.
-use Rattle.std.proofs.Common.{◌≡◌, ℕ, zero, suc, ◌+◌, ◌-◌, ◌%◌, ◌<◌, ◌≤◌, ℤ, pos, List, [], ◌∷◌, ◌++◌, get_or, length, take, drop, replicate, refl, ap, sym, ◌∙◌, subst, arith, inl, inr, length-drop, mod-eq_of_lt}
+use Rattle.std.proofs.Common.{◌≡◌, ℕ, zero, suc, ◌+◌, ◌-◌, ◌%◌, ◌<◌, ℤ, pos, List, [], ◌∷◌, ◌++◌, get_or, length, take, drop, replicate, refl, ap, sym, ◌∙◌, subst, arith, inl, inr, length-drop, mod-eq_of_lt}
 use Rattle.std.proofs.Math.Nat.{mod_self, zero-mod, add-mod-mod, add-zero}
 use Rattle.std.proofs.lemmas.List.{append-nil, get_or_append_left, get_or-append-add, take-append-drop, length-take-le, length-replicate}
 use Rattle.std.proofs.lemmas.Bool.{cases_lt}
 use Rattle.pq_base.specs.SignedWord.{inv, copies, comm}
 use Rattle.pq_base.specs.Table.{AllBelow}
-use Rattle.pq_base.specs.Presentation.{Presentation, IsRelatorOf, IsNormal, letter, word_from, normal_word, power_side, commutator_side, power_word, commutator_word}
+use Rattle.pq_base.specs.Presentation.{IsRelatorOf, IsNormal, letter, word_from, normal_word, power_side, commutator_side, power_word, commutator_word}
 use Rattle.pq_base.specs.Presentation.IsRelatorOf.{power_relator, commutator_relator}
 use Rattle.pq_base.specs.Joined.{Joined}
-use Rattle.pq_base.proofs.WordLaws.{word_from-append, word_from-zeros, copies-one}
+use Rattle.pq_base.proofs.WordLaws.{word_from-append, word_from-zeros}
 use Rattle.pq_base.proofs.Groups.{Group, value_in, times-same_left, times_in-cancel_left, value_in-append, value_in-inv, value_in-comm, value_in-letter, value_in-joined, commutator_in}
 use Rattle.pq_base.proofs.GroupIdentities.{times_in-swap}
 use Rattle.pc_presentation.specs.Rowed.{RowedPresentation, IsRowed, power_row, commutator_row, row_sum, flat}
@@ -17,8 +17,7 @@ use Rattle.pc_presentation.specs.Collection.{State, IsState, identity, spelled, 
 use Rattle.pc_presentation.proofs.RowLaws.{identity-state, AllBelow-zeros, zeros-normal, zeros-row_sum}
 use Rattle.pc_presentation.proofs.PushLaws.{push_configuration-add_row}
 use Rattle.pc_presentation.proofs.PlainRule.{plain, plain-rides, plain-state, plain-spelled, spelled-zeros}
-use Rattle.pc_presentation.proofs.PlainRuns.{AllBelow-append, AllBelow-replicate, AllBelow-spelled}
-use Rattle.pc_presentation.proofs.RunLaws.{ReplacementFrom}
+use Rattle.pc_presentation.proofs.PlainRuns.{AllBelow-replicate, AllBelow-spelled}
 use Rattle.pc_presentation.proofs.RunLaws.ReplacementFrom.{swap_from, power_from}
 use Rattle.pc_presentation.proofs.StateProducts.{star, RelationsAct, star-push_word, star-push, star-identity_left, star-identity_right}
 use Rattle.pc_presentation.proofs.StateGroup.{ValidState, state_group}

@@ -1,8 +1,8 @@
 -- Collection: directed steps on words of generators with a row, and the plain rule, the simplest way of choosing them.
 -- Letters of these words are the places of generators, counted from 0; the tails stand in the row alone.
 -- From: collection from the left in P. Hall's sense, as in C. C. Sims, Computation with finitely presented groups, chapter 9.
-use Rattle.std.specs.Prelude.{◌≡◌, ◌<◌, ◌+◌, ℕ, zero, suc, Bool, true, false, eqb, ℤ, List, [], ◌∷◌, ◌++◌, map, replicate}
-use Rattle.pq_base.specs.Presentation.{Presentation, IsNormal, letter, word_from, power_side, commutator_side}
+use Rattle.std.specs.Prelude.{◌<◌, ◌+◌, ℕ, zero, suc, Bool, true, false, eqb, ℤ, List, [], ◌∷◌, ◌++◌, replicate}
+use Rattle.pq_base.specs.Presentation.{IsNormal, letter, word_from, power_side, commutator_side}
 use Rattle.pc_presentation.specs.Rowed.{RowedPresentation, power_row, commutator_row, row_sum}
 
 -- a word with a row

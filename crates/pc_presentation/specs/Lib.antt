@@ -1,3 +1,4 @@
 pub mod Rowed
 pub mod Collection
 pub mod Overlaps
+pub mod CollectionLaws

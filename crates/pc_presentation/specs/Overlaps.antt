@@ -1,9 +1,9 @@
 -- Overlaps: words with two ways of collecting them, which agree in a consistent presentation.
 -- From: the consistency relations of M. R. Vaughan-Lee, An aspect of the nilpotent quotient algorithm, 1984.
-use Rattle.std.specs.Prelude.{◌≡◌, ◌<◌, ℕ, zero, suc, List, [], ◌∷◌, ◌++◌, replicate, pred}
-use Rattle.pq_base.specs.Presentation.{Presentation, power_side, commutator_side}
+use Rattle.std.specs.Prelude.{◌≡◌, ◌<◌, ℕ, suc, List, [], ◌∷◌, ◌++◌, replicate, pred}
+use Rattle.pq_base.specs.Presentation.{power_side, commutator_side}
 use Rattle.pc_presentation.specs.Rowed.{RowedPresentation, power_row, commutator_row}
-use Rattle.pc_presentation.specs.Collection.{Configuration, State, IsState, identity, spelled, configuration_of, Replacement, DirectedRun, add_row, push_configuration, plain_push}
+use Rattle.pc_presentation.specs.Collection.{Configuration, State, IsState, identity, spelled, configuration_of, DirectedRun, add_row, push_configuration, plain_push}
 
 -- the places of generators, counted from 0
 pub data Overlap : Type 0 where

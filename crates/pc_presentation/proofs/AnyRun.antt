@@ -49,7 +49,7 @@ never_late [] (y ∷ v) u q = cc
 never_late (x ∷ w) [] u q = cc
 never_late (x ∷ w) (y ∷ v) u q = let h : map suc w ≡ map suc v ++ 0 ∷ map suc u = cc in never_late w v u h
 
-same_late : (e f : ℕ) (w v u : List ℕ) → replicate e 0 ++ map suc w ≡ late f v u → (v ≡ []) × (e ≡ suc f) × (w ≡ u)
+pub same_late : (e f : ℕ) (w v u : List ℕ) → replicate e 0 ++ map suc w ≡ late f v u → (v ≡ []) × (e ≡ suc f) × (w ≡ u)
 same_late zero zero w v u q = absurd (never_late w v u q)
 same_late zero (suc f) [] v u q = cc
 same_late zero (suc f) (x ∷ w) v u q = cc

@@ -12,7 +12,11 @@ pub mod AnyRun
 pub mod OverlapsFrom
 pub mod OverlapsAct
 pub mod FlatLaws
+pub mod LetterWords
 pub mod StateGroup
 pub mod StateValues
 pub mod Reached
 pub mod Consistency
+pub mod CollectionVectors
+pub mod FinalExponents
+pub mod TailLaws

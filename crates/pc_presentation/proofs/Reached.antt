@@ -17,7 +17,7 @@ use Rattle.pc_presentation.proofs.PlainRule.{plain, plain-state, spelled-zeros}
 use Rattle.pc_presentation.proofs.PlainRuns.{plain_push-run, AllBelow-spelled}
 use Rattle.pc_presentation.proofs.StateProducts.{star, star-state}
 use Rattle.pc_presentation.proofs.StateGroup.{right_inverse}
-use Rattle.pc_presentation.proofs.StateValues.{letters-append, letters-replicate, letters-spelled}
+use Rattle.pc_presentation.proofs.LetterWords.{letters-append, letters-replicate, letters-spelled}
 use Rattle.pc_presentation.proofs.FlatLaws.{without_rows-rowed}
 
 replacement-joined : (Y : RowedPresentation) {l r t : List ℕ} → Replacement Y l r t → Joined Y.base (letters l) (letters r)

@@ -21,6 +21,7 @@ use Rattle.pc_presentation.proofs.PlainRuns.{AllBelow-replicate, AllBelow-spelle
 use Rattle.pc_presentation.proofs.RunLaws.ReplacementFrom.{swap_from, power_from}
 use Rattle.pc_presentation.proofs.StateProducts.{star, RelationsAct, star-push_word, star-push, star-identity_left, star-identity_right}
 use Rattle.pc_presentation.proofs.StateGroup.{ValidState, state_group}
+use Rattle.pc_presentation.proofs.LetterWords.{letters-append, letters-replicate, letters-spelled, side_word}
 use Rattle.pc_presentation.proofs.FlatLaws.{power_side-flat, power_side-tail, commutator_side-flat, commutator_side-tail}
 
 -- f at d places from i on
@@ -79,22 +80,6 @@ entry_row-front p (suc t) c x l h =
     ap (λ (m : ℕ). row_sum p (entry_row m (suc t) c) (0 ∷ (replicate (suc t) 0 ++ x))) n
     ∙ ap (λ (m : ℕ). m ∷ row_sum p (entry_row (t + suc (length x)) t c) (replicate (suc t) 0 ++ x)) z
     ∙ ap (λ (y : List ℕ). 0 ∷ y) (entry_row-front p t c x l h)
-
--- the letters of exponents as a signed word
-pub letters-append : (u v : List ℕ) → letters (u ++ v) ≡ letters u ++ letters v
-letters-append [] v = refl
-letters-append (i ∷ u) v = ap (λ (w : List ℤ). pos (suc i) ∷ w) (letters-append u v)
-
-pub letters-replicate : (e i : ℕ) → letters (replicate e i) ≡ copies (letter i) e
-letters-replicate zero i = refl
-letters-replicate (suc e) i = ap (λ (w : List ℤ). pos (suc i) ∷ w) (letters-replicate e i)
-
-pub letters-spelled : (k : ℕ) (e : List ℕ) → letters (spelled k e) ≡ word_from k e
-letters-spelled k [] = refl
-letters-spelled k (x ∷ e) =
-    letters-append (replicate x k) (spelled (suc k) e)
-    ∙ ap (λ (w : List ℤ). w ++ letters (spelled (suc k) e)) (letters-replicate x k)
-    ∙ ap (λ (w : List ℤ). copies (letter k) x ++ w) (letters-spelled (suc k) e)
 
 -- in a group, sides of equal value make relators of value one
 module _ (G : Group) (f : List G.carrier) where
@@ -248,12 +233,6 @@ module _ (Y : RowedPresentation) (rowed : IsRowed Y) (big : 1 < Y.base.prime) (a
       ∙ star-row_state v.state x)
 
   -- relators have value one
-  pub side_word : (i : ℕ) (e x : List ℕ) → suc i + length e ≡ Y.base.rank → word_from (suc i) (e ++ x) ≡ letters (spelled (suc i) e) ++ word_from Y.base.rank x
-  side_word i e x c =
-      word_from-append (suc i) e x
-      ∙ ap (λ (m : ℕ). word_from (suc i) e ++ word_from m x) c
-      ∙ ap (λ (w : List ℤ). w ++ word_from Y.base.rank x) (sym (letters-spelled (suc i) e))
-
   power-value : (i : ℕ) → i < Y.base.rank → state_value (copies (letter i) Y.base.prime) ≡ state_value (power_word (flat Y) i)
   power-value i l =
       let p : ℕ = Y.base.prime in
@@ -264,7 +243,7 @@ module _ (Y : RowedPresentation) (rowed : IsRowed Y) (big : 1 < Y.base.prime) (a
       ∙ value-letters (replicate p i) (AllBelow-replicate Y.base.rank p i l)
       ∙ acts (identity Y Y.base.rank) (identity-state Y Y.base.rank is_positive) (replicate Y.base.prime i) (spelled (suc i) side) row (power_from i i (omega arith) l)
       ∙ sym (value-with_row (spelled (suc i) side) row (AllBelow-spelled Y.base.rank (suc i) side (omega arith)) (rowed.power_rows i l))
-      ∙ ap state_value (sym (ap (word_from (suc i)) (power_side-flat Y rowed i l) ∙ side_word i side row c))
+      ∙ ap state_value (sym (ap (word_from (suc i)) (power_side-flat Y rowed i l) ∙ side_word Y.base.rank i side row c))
 
   swap-value : (j i : ℕ) → j < Y.base.rank → i < j
       → state_value (letter j ++ letter i) ≡ state_value (letter i ++ (letter j ++ commutator_word (flat Y) j i))
@@ -276,7 +255,7 @@ module _ (Y : RowedPresentation) (rowed : IsRowed Y) (big : 1 < Y.base.prime) (a
       ∙ acts (identity Y Y.base.rank) (identity-state Y Y.base.rank is_positive) (j ∷ i ∷ []) (i ∷ j ∷ spelled (suc j) side) row
       (swap_from j i j i (omega arith) (omega arith) l m)
       ∙ sym (value-with_row (i ∷ j ∷ spelled (suc j) side) row (omega arith, (l, AllBelow-spelled Y.base.rank (suc j) side (omega arith))) (rowed.commutator_rows j i l m))
-      ∙ ap (λ (w : List ℤ). state_value (letter i ++ (letter j ++ w))) (sym (ap (word_from (suc j)) (commutator_side-flat Y rowed j i l) ∙ side_word j side row c))
+      ∙ ap (λ (w : List ℤ). state_value (letter i ++ (letter j ++ w))) (sym (ap (word_from (suc j)) (commutator_side-flat Y rowed j i l) ∙ side_word Y.base.rank j side row c))
 
   tail_power-value : (t : ℕ) → t < Y.width → state_value (copies (letter (Y.base.rank + t)) Y.base.prime) ≡ state_value (power_word (flat Y) (Y.base.rank + t))
   tail_power-value t l =

@@ -3,6 +3,7 @@
 -- M. R. Vaughan-Lee, An aspect of the nilpotent quotient algorithm, 1984.
 use Rattle.std.specs.Prelude.{◌≡◌, ◌<◌, ◌+◌, ◌%◌, ℕ, ℤ, List, ◌++◌, get_or}
 use Rattle.pq_base.specs.SignedWord.{HasLetters}
+use Rattle.pq_base.specs.Table.{AllBelow}
 use Rattle.pq_base.specs.Presentation.{Presentation, IsPresentation, IsNormal, letter}
 use Rattle.pq_base.specs.Joined.{Joined, Reaches, IsConsistent}
 use Rattle.pc_presentation.specs.Rowed.{RowedPresentation, IsRowed, without_rows, flat}
@@ -30,7 +31,8 @@ EarlierExponentsAreFinal = (Y : RowedPresentation) → IsRowed Y → 1 < Y.base.
 
 -- the ends of a directed run are joined in the flat reading
 abbrev pub DirectedRunsAreJoined : Type 0
-DirectedRunsAreJoined = (Y : RowedPresentation) → IsRowed Y → 0 < Y.base.prime → (c d : Configuration) → IsNormal Y.base.prime Y.width c.row
+DirectedRunsAreJoined = (Y : RowedPresentation) → IsRowed Y → 0 < Y.base.prime → (c d : Configuration) → AllBelow Y.base.rank c.word
+    → IsNormal Y.base.prime Y.width c.row
     → DirectedRun Y c d → Joined (flat Y) (signed_word Y.base.rank c) (signed_word Y.base.rank d)
 
 -- so a push of the plain rule is joined to the word with the letter behind it

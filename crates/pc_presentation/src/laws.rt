@@ -1,6 +1,6 @@
 //! Laws of collection: each function does nothing, and its clause is a theorem.
 
-ghost use Rattle.pc_presentation.specs.CollectionLaws.{PlainPushesAreRuns, RowsRideAlong, WordsReachNormalWords, AgreeingOverlapsMakeConsistent, AgreeingOverlapsMakeConsistentWithoutRows, PlainAgreementIsAgreement};
+ghost use Rattle.pc_presentation.specs.CollectionLaws.{PlainPushesAreRuns, RowsRideAlong, EarlierExponentsAreFinal, DirectedRunsAreJoined, PlainPushesAreJoined, WordsReachNormalWords, AgreeingOverlapsMakeConsistent, AgreeingOverlapsMakeConsistentWithoutRows, PlainAgreementIsAgreement};
 
 /// A push of the plain rule is a directed run from the word with the letter behind it to a state.
 pub fn plain_pushes_are_runs()
@@ -11,6 +11,25 @@ pub fn plain_pushes_are_runs()
 #[tactic(auto, using(crate::proofs::Consistency::rows_ride_along))]
 pub fn rows_ride_along()
     ensures { RowsRideAlong }
+{}
+
+/// Each run that pushes a generator on a state leaves the earlier exponents, and raises the generator's own by one modulo
+/// the prime, whatever its steps are.
+#[tactic(auto, using(crate::proofs::FinalExponents::earlier_exponents_are_final))]
+pub fn earlier_exponents_are_final()
+    ensures { EarlierExponentsAreFinal }
+{}
+
+/// The ends of a directed run are joined in the flat reading, where the tails are the last generators.
+#[tactic(auto, using(crate::proofs::TailLaws::directed_runs_are_joined))]
+pub fn directed_runs_are_joined()
+    ensures { DirectedRunsAreJoined }
+{}
+
+/// A push of the plain rule is joined in the flat reading to the word of the state with the letter behind it.
+#[tactic(auto, using(crate::proofs::TailLaws::plain_pushes_are_joined))]
+pub fn plain_pushes_are_joined()
+    ensures { PlainPushesAreJoined }
 {}
 
 /// In every presentation each signed word over the generators is joined to a normal word. This is the half of

@@ -3,7 +3,7 @@
 use Rattle.std.proofs.Common.{◌≡◌, ℕ, List, [], ◌∷◌, refl}
 use Rattle.pq_base.specs.Presentation.{Presentation}
 use Rattle.pc_presentation.specs.Rowed.{RowedPresentation, without_rows, row_sum, flat}
-use Rattle.pc_presentation.specs.Collection.{Configuration, State, identity, configuration_of, push_word, push_configuration, plain_push_from, plain_push}
+use Rattle.pc_presentation.specs.Collection.{Configuration, State, identity, push_word, push_configuration, plain_push_from, plain_push}
 use Rattle.pc_presentation.specs.Overlaps.{left_way, right_way}
 use Rattle.pc_presentation.specs.Overlaps.Overlap.{triple, left, right, own}
 

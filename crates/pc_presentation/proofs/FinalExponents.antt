@@ -1,18 +1,17 @@
 -- Each run that pushes a generator on a state leaves the earlier exponents and raises the generator's own modulo the
 -- prime, whatever the choice of its steps.
-use Rattle.std.proofs.Common.{◌≡◌, ℕ, zero, suc, ◌+◌, ◌%◌, ◌<◌, ◌≤◌, List, [], ◌∷◌, ◌++◌, get_or, map, replicate, refl, ap, sym, ◌∙◌, subst, arith, append_assoc, mod-eq_of_lt}
+use Rattle.std.proofs.Common.{◌≡◌, ℕ, zero, suc, ◌+◌, ◌%◌, ◌<◌, List, [], ◌∷◌, ◌++◌, get_or, map, replicate, refl, ap, sym, ◌∙◌, subst, arith, append_assoc, mod-eq_of_lt}
 use Rattle.std.proofs.lemmas.List.{map-append}
 use Rattle.std.proofs.Math.Nat.{mod_self}
-use Rattle.pq_base.specs.Presentation.{Presentation, power_side, commutator_side}
-use Rattle.pc_presentation.specs.Rowed.{RowedPresentation, IsRowed, row_sum}
-use Rattle.pc_presentation.specs.Collection.{Configuration, State, IsState, Run, spelled, configuration_of, before}
+use Rattle.pq_base.specs.Presentation.{power_side, commutator_side}
+use Rattle.pc_presentation.specs.Rowed.{RowedPresentation, row_sum}
+use Rattle.pc_presentation.specs.Collection.{Configuration, State, IsState, spelled, configuration_of, before}
 use Rattle.pc_presentation.specs.Collection.Run.{stop, move}
-use Rattle.pc_presentation.specs.Overlaps.{IsPushed}
 use Rattle.pc_presentation.specs.CollectionLaws.{ExponentsAfterPush, EarlierExponentsAreFinal}
-use Rattle.pc_presentation.proofs.RowLaws.{IsBefore, is_before}
+use Rattle.pc_presentation.proofs.RowLaws.{is_before}
 use Rattle.pc_presentation.proofs.PlainRule.{spelled-suc}
 use Rattle.pc_presentation.proofs.RunLaws.{RunFrom, replacement_from, run-weaken}
-use Rattle.pc_presentation.proofs.StepShapes.{StepAt, IsIrreducible, step-suffix, step-behind, spelled-irreducible, PlacedStep, placed_step, step_of_place}
+use Rattle.pc_presentation.proofs.StepShapes.{StepAt, IsIrreducible, step-suffix, step-behind, spelled-irreducible, placed_step, step_of_place}
 use Rattle.pc_presentation.proofs.PassShapes.{late, LateStep, late_step}
 use Rattle.pc_presentation.proofs.PassShapes.LateStep.{inside, passes, full}
 use Rattle.pc_presentation.proofs.AnyRun.{same_behind, same_late}

@@ -1,5 +1,5 @@
 -- The letters of exponents as signed words.
-use Rattle.std.proofs.Common.{◌≡◌, ℕ, zero, suc, ◌+◌, ◌<◌, ℤ, pos, List, [], ◌∷◌, ◌++◌, length, replicate, refl, ap, sym, ◌∙◌}
+use Rattle.std.proofs.Common.{◌≡◌, ℕ, zero, suc, ◌+◌, ℤ, pos, List, [], ◌∷◌, ◌++◌, length, replicate, refl, ap, sym, ◌∙◌}
 use Rattle.pq_base.specs.SignedWord.{copies}
 use Rattle.pq_base.specs.Presentation.{letter, word_from}
 use Rattle.pq_base.proofs.WordLaws.{word_from-append}

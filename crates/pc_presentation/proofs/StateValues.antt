@@ -13,6 +13,7 @@ use Rattle.pq_base.proofs.WordLaws.{word_from-append, word_from-zeros}
 use Rattle.pq_base.proofs.Groups.{Group, value_in, times-same_left, times_in-cancel_left, value_in-append, value_in-inv, value_in-comm, value_in-letter, value_in-joined, commutator_in}
 use Rattle.pq_base.proofs.GroupIdentities.{times_in-swap}
 use Rattle.pc_presentation.specs.Rowed.{RowedPresentation, IsRowed, power_row, commutator_row, row_sum, flat}
+use Rattle.pc_presentation.specs.NormalTable.{list_from, single}
 use Rattle.pc_presentation.specs.Collection.{State, IsState, identity, spelled, letters, configuration_of, add_row, push_word}
 use Rattle.pc_presentation.proofs.RowLaws.{identity-state, AllBelow-zeros, zeros-normal, zeros-row_sum}
 use Rattle.pc_presentation.proofs.PushLaws.{push_configuration-add_row}
@@ -21,65 +22,55 @@ use Rattle.pc_presentation.proofs.PlainRuns.{AllBelow-replicate, AllBelow-spelle
 use Rattle.pc_presentation.proofs.RunLaws.ReplacementFrom.{swap_from, power_from}
 use Rattle.pc_presentation.proofs.StateProducts.{star, RelationsAct, star-push_word, star-push, star-identity_left, star-identity_right}
 use Rattle.pc_presentation.proofs.StateGroup.{ValidState, state_group}
-use Rattle.pc_presentation.proofs.LetterWords.{letters-append, letters-replicate, letters-spelled, side_word}
+use Rattle.pc_presentation.proofs.LetterWords.{letters-replicate, letters-spelled, side_word}
 use Rattle.pc_presentation.proofs.FlatLaws.{power_side-flat, power_side-tail, commutator_side-flat, commutator_side-tail}
 
--- f at d places from i on
-abbrev pub elements_from : {A : Type 0} → (ℕ → A) → ℕ → ℕ → List A
-elements_from f i zero = []
-elements_from f i (suc d) = f i ∷ elements_from f (suc i) d
+pub length-list_from : {A : Type 0} (f : ℕ → A) (i d : ℕ) → length (list_from f i d) ≡ d
+length-list_from f i zero = refl
+length-list_from f i (suc d) = ap suc (length-list_from f (suc i) d)
 
-pub length-elements_from : {A : Type 0} (f : ℕ → A) (i d : ℕ) → length (elements_from f i d) ≡ d
-length-elements_from f i zero = refl
-length-elements_from f i (suc d) = ap suc (length-elements_from f (suc i) d)
+pub get_or-list_from : {A : Type 0} (f : ℕ → A) (i d j : ℕ) (a : A) → j < d → get_or (list_from f i d) j a ≡ f (i + j)
+get_or-list_from f i zero j a l = absurd (omega arith)
+get_or-list_from f i (suc d) zero a l = ap f (let e : i ≡ i + 0 = omega arith in e)
+get_or-list_from f i (suc d) (suc j) a l = get_or-list_from f (suc i) d j a (omega arith) ∙ ap f (let e : suc i + j ≡ i + suc j = omega arith in e)
 
-pub get_or-elements_from : {A : Type 0} (f : ℕ → A) (i d j : ℕ) (a : A) → j < d → get_or (elements_from f i d) j a ≡ f (i + j)
-get_or-elements_from f i zero j a l = absurd (omega arith)
-get_or-elements_from f i (suc d) zero a l = ap f (let e : i ≡ i + 0 = omega arith in e)
-get_or-elements_from f i (suc d) (suc j) a l = get_or-elements_from f (suc i) d j a (omega arith) ∙ ap f (let e : suc i + j ≡ i + suc j = omega arith in e)
+-- a row with one entry
+pub single-zero : (q t : ℕ) → single q t 0 ≡ replicate q 0
+single-zero zero t = refl
+single-zero (suc q) zero = refl
+single-zero (suc q) (suc t) = ap (λ (x : List ℕ). 0 ∷ x) (single-zero q t)
 
--- a row of width q with entry c at place t alone
-abbrev pub entry_row : ℕ → ℕ → ℕ → List ℕ
-entry_row zero t c = []
-entry_row (suc q) zero c = c ∷ replicate q 0
-entry_row (suc q) (suc t) c = 0 ∷ entry_row q t c
-
-pub entry_row-zero : (q t : ℕ) → entry_row q t 0 ≡ replicate q 0
-entry_row-zero zero t = refl
-entry_row-zero (suc q) zero = refl
-entry_row-zero (suc q) (suc t) = ap (λ (x : List ℕ). 0 ∷ x) (entry_row-zero q t)
-
-pub entry_row-normal : (p q t c : ℕ) → c < p → IsNormal p q (entry_row q t c)
-entry_row-normal p zero t c l = record { count = refl; below = tt }
-entry_row-normal p (suc q) zero c l =
+pub single-normal : (p q t c : ℕ) → c < p → IsNormal p q (single q t c)
+single-normal p zero t c l = record { count = refl; below = tt }
+single-normal p (suc q) zero c l =
     let z : length (replicate {A = ℕ} q 0) ≡ q = length-replicate {A = ℕ} q 0 in
     record { count = ap suc z; below = (l, AllBelow-zeros p q (omega arith)) }
-entry_row-normal p (suc q) (suc t) c l = let r = entry_row-normal p q t c l in record { count = ap suc r.count; below = (omega arith, r.below) }
+single-normal p (suc q) (suc t) c l = let r = single-normal p q t c l in record { count = ap suc r.count; below = (omega arith, r.below) }
 
 zeros-sum : (p q : ℕ) → 0 < p → row_sum p (replicate q 0) (replicate q 0) ≡ replicate q 0
 zeros-sum p q l = zeros-row_sum p q (replicate q 0) (zeros-normal p q l)
 
-entry_row-sum : (p q t a b : ℕ) → 0 < p → row_sum p (entry_row q t a) (entry_row q t b) ≡ entry_row q t ((a + b) % p)
-entry_row-sum p zero t a b l = refl
-entry_row-sum p (suc q) zero a b l = ap (λ (x : List ℕ). (a + b) % p ∷ x) (zeros-sum p q l)
-entry_row-sum p (suc q) (suc t) a b l =
+single-sum : (p q t a b : ℕ) → 0 < p → row_sum p (single q t a) (single q t b) ≡ single q t ((a + b) % p)
+single-sum p zero t a b l = refl
+single-sum p (suc q) zero a b l = ap (λ (x : List ℕ). (a + b) % p ∷ x) (zeros-sum p q l)
+single-sum p (suc q) (suc t) a b l =
     let z : (0 + 0) % p ≡ 0 = ap (λ (m : ℕ). m % p) (let e : 0 + 0 ≡ 0 = omega arith in e) ∙ zero-mod p in
-    ap (λ (m : ℕ). m ∷ row_sum p (entry_row q t a) (entry_row q t b)) z ∙ ap (λ (x : List ℕ). 0 ∷ x) (entry_row-sum p q t a b l)
+    ap (λ (m : ℕ). m ∷ row_sum p (single q t a) (single q t b)) z ∙ ap (λ (x : List ℕ). 0 ∷ x) (single-sum p q t a b l)
 
-entry_row-front : (p t c : ℕ) (x : List ℕ) → c < p → AllBelow p x
-    → row_sum p (entry_row (t + suc (length x)) t c) (replicate (suc t) 0 ++ x) ≡ replicate t 0 ++ c ∷ x
-entry_row-front p zero c x l h =
+single-front : (p t c : ℕ) (x : List ℕ) → c < p → AllBelow p x
+    → row_sum p (single (t + suc (length x)) t c) (replicate (suc t) 0 ++ x) ≡ replicate t 0 ++ c ∷ x
+single-front p zero c x l h =
     let n : 0 + suc (length x) ≡ suc (length x) = omega arith in
     let z : (c + 0) % p ≡ c = ap (λ (m : ℕ). m % p) (add-zero c) ∙ mod-eq_of_lt l in
-    ap (λ (m : ℕ). row_sum p (entry_row m 0 c) (0 ∷ x)) n
+    ap (λ (m : ℕ). row_sum p (single m 0 c) (0 ∷ x)) n
     ∙ ap (λ (m : ℕ). m ∷ row_sum p (replicate (length x) 0) x) z
     ∙ ap (λ (y : List ℕ). c ∷ y) (zeros-row_sum p (length x) x (record { count = refl; below = h }))
-entry_row-front p (suc t) c x l h =
+single-front p (suc t) c x l h =
     let n : suc t + suc (length x) ≡ suc (t + suc (length x)) = omega arith in
     let z : (0 + 0) % p ≡ 0 = ap (λ (m : ℕ). m % p) (let e : 0 + 0 ≡ 0 = omega arith in e) ∙ zero-mod p in
-    ap (λ (m : ℕ). row_sum p (entry_row m (suc t) c) (0 ∷ (replicate (suc t) 0 ++ x))) n
-    ∙ ap (λ (m : ℕ). m ∷ row_sum p (entry_row (t + suc (length x)) t c) (replicate (suc t) 0 ++ x)) z
-    ∙ ap (λ (y : List ℕ). 0 ∷ y) (entry_row-front p t c x l h)
+    ap (λ (m : ℕ). row_sum p (single m (suc t) c) (0 ∷ (replicate (suc t) 0 ++ x))) n
+    ∙ ap (λ (m : ℕ). m ∷ row_sum p (single (t + suc (length x)) t c) (replicate (suc t) 0 ++ x)) z
+    ∙ ap (λ (y : List ℕ). 0 ∷ y) (single-front p t c x l h)
 
 -- in a group, sides of equal value make relators of value one
 module _ (G : Group) (f : List G.carrier) where
@@ -124,29 +115,29 @@ module _ (Y : RowedPresentation) (rowed : IsRowed Y) (big : 1 < Y.base.prime) (a
   generator_state i = record { state = plain Y Y.base.rank 0 (identity Y Y.base.rank) i; valid = generator-valid i }
 
   abbrev pub tail_state : ℕ → ValidState Y Y.base.rank
-  tail_state t = record { state = row_state (entry_row Y.width t 1); valid = row_state-valid (entry_row Y.width t 1) (entry_row-normal Y.base.prime Y.width t 1 big) }
+  tail_state t = record { state = row_state (single Y.width t 1); valid = row_state-valid (single Y.width t 1) (single-normal Y.base.prime Y.width t 1 big) }
 
   abbrev pub all_states : List (ValidState Y Y.base.rank)
-  all_states = elements_from generator_state 0 Y.base.rank ++ elements_from tail_state 0 Y.width
+  all_states = list_from generator_state 0 Y.base.rank ++ list_from tail_state 0 Y.width
 
   abbrev pub state_value : List ℤ → State
   state_value w = (value_in states all_states w).state
 
   all_states-generator : (i : ℕ) → i < Y.base.rank → (get_or all_states i states.one).state ≡ plain Y Y.base.rank 0 (identity Y Y.base.rank) i
   all_states-generator i l =
-      let c = length-elements_from generator_state 0 Y.base.rank in
+      let c = length-list_from generator_state 0 Y.base.rank in
       ap (λ (x : ValidState Y Y.base.rank). x.state)
-      (get_or_append_left (elements_from generator_state 0 Y.base.rank) (elements_from tail_state 0 Y.width) states.one i (omega arith)
-      ∙ get_or-elements_from generator_state 0 Y.base.rank i states.one l)
+      (get_or_append_left (list_from generator_state 0 Y.base.rank) (list_from tail_state 0 Y.width) states.one i (omega arith)
+      ∙ get_or-list_from generator_state 0 Y.base.rank i states.one l)
       ∙ ap (plain Y Y.base.rank 0 (identity Y Y.base.rank)) (let e : 0 + i ≡ i = omega arith in e)
 
-  all_states-tail : (t : ℕ) → t < Y.width → (get_or all_states (Y.base.rank + t) states.one).state ≡ row_state (entry_row Y.width t 1)
+  all_states-tail : (t : ℕ) → t < Y.width → (get_or all_states (Y.base.rank + t) states.one).state ≡ row_state (single Y.width t 1)
   all_states-tail t l =
       ap (λ (x : ValidState Y Y.base.rank). x.state)
-      (ap (λ (m : ℕ). get_or all_states (m + t) states.one) (sym (length-elements_from generator_state 0 Y.base.rank))
-      ∙ get_or-append-add (elements_from generator_state 0 Y.base.rank) (elements_from tail_state 0 Y.width) t states.one
-      ∙ get_or-elements_from tail_state 0 Y.width t states.one l)
-      ∙ ap (λ (m : ℕ). row_state (entry_row Y.width m 1)) (let e : 0 + t ≡ t = omega arith in e)
+      (ap (λ (m : ℕ). get_or all_states (m + t) states.one) (sym (length-list_from generator_state 0 Y.base.rank))
+      ∙ get_or-append-add (list_from generator_state 0 Y.base.rank) (list_from tail_state 0 Y.width) t states.one
+      ∙ get_or-list_from tail_state 0 Y.width t states.one l)
+      ∙ ap (λ (m : ℕ). row_state (single Y.width m 1)) (let e : 0 + t ≡ t = omega arith in e)
 
   -- a state of a row alone: a product behind s adds the row
   star-row_state : (s : State) (x : List ℕ) → star Y Y.base.rank 0 s (row_state x) ≡ add_row Y.base.prime x s
@@ -166,17 +157,17 @@ module _ (Y : RowedPresentation) (rowed : IsRowed Y) (big : 1 < Y.base.prime) (a
       ∙ ap (λ (s : State). push_word (plain Y Y.base.rank 0) s u) (star-identity_right Y Y.base.rank 0 g (generator-valid i))
 
   -- and of words of tails
-  value-copies_of_tail : (t c : ℕ) → t < Y.width → state_value (copies (letter (Y.base.rank + t)) c) ≡ row_state (entry_row Y.width t (c % Y.base.prime))
+  value-copies_of_tail : (t c : ℕ) → t < Y.width → state_value (copies (letter (Y.base.rank + t)) c) ≡ row_state (single Y.width t (c % Y.base.prime))
   value-copies_of_tail t zero l =
-      ap row_state (sym (entry_row-zero Y.width t) ∙ ap (entry_row Y.width t) (sym (zero-mod Y.base.prime)))
+      ap row_state (sym (single-zero Y.width t) ∙ ap (single Y.width t) (sym (zero-mod Y.base.prime)))
   value-copies_of_tail t (suc c) l =
       let m : ℕ = c % Y.base.prime in
       let e : 1 + c ≡ suc c = omega arith in
       ap (λ (s : State). star Y Y.base.rank 0 s (state_value (copies (letter (Y.base.rank + t)) c))) (all_states-tail t l)
-      ∙ ap (star Y Y.base.rank 0 (row_state (entry_row Y.width t 1))) (value-copies_of_tail t c l)
-      ∙ star-row_state (row_state (entry_row Y.width t 1)) (entry_row Y.width t m)
-      ∙ ap row_state (entry_row-sum Y.base.prime Y.width t 1 m is_positive)
-      ∙ ap (λ (x : ℕ). row_state (entry_row Y.width t x)) (add-mod-mod 1 c Y.base.prime ∙ ap (λ (x : ℕ). x % Y.base.prime) e)
+      ∙ ap (star Y Y.base.rank 0 (row_state (single Y.width t 1))) (value-copies_of_tail t c l)
+      ∙ star-row_state (row_state (single Y.width t 1)) (single Y.width t m)
+      ∙ ap row_state (single-sum Y.base.prime Y.width t 1 m is_positive)
+      ∙ ap (λ (x : ℕ). row_state (single Y.width t x)) (add-mod-mod 1 c Y.base.prime ∙ ap (λ (x : ℕ). x % Y.base.prime) e)
 
   value-tails_from : (t : ℕ) (x : List ℕ) → t + length x ≡ Y.width → AllBelow Y.base.prime x
       → state_value (word_from (Y.base.rank + t) x) ≡ row_state (replicate t 0 ++ x)
@@ -190,11 +181,11 @@ module _ (Y : RowedPresentation) (rowed : IsRowed Y) (big : 1 < Y.base.prime) (a
       ∙ value-tails_from (suc t) x (omega arith) h.1 in
       value_in-append states all_states (copies (letter (n + t)) c) (word_from (suc (n + t)) x)
       ∙ ap (λ (s : State). star Y Y.base.rank 0 s (state_value (word_from (suc (Y.base.rank + t)) x)))
-      (value-copies_of_tail t c (omega arith) ∙ ap (λ (m : ℕ). row_state (entry_row Y.width t m)) (mod-eq_of_lt h.0))
-      ∙ ap (star Y Y.base.rank 0 (row_state (entry_row Y.width t c))) rest
-      ∙ star-row_state (row_state (entry_row Y.width t c)) (replicate (suc t) 0 ++ x)
-      ∙ ap (λ (q : ℕ). row_state (row_sum Y.base.prime (entry_row q t c) (replicate (suc t) 0 ++ x))) (let g : Y.width ≡ t + suc (length x) = omega arith in g)
-      ∙ ap row_state (entry_row-front Y.base.prime t c x h.0 h.1)
+      (value-copies_of_tail t c (omega arith) ∙ ap (λ (m : ℕ). row_state (single Y.width t m)) (mod-eq_of_lt h.0))
+      ∙ ap (star Y Y.base.rank 0 (row_state (single Y.width t c))) rest
+      ∙ star-row_state (row_state (single Y.width t c)) (replicate (suc t) 0 ++ x)
+      ∙ ap (λ (q : ℕ). row_state (row_sum Y.base.prime (single q t c) (replicate (suc t) 0 ++ x))) (let g : Y.width ≡ t + suc (length x) = omega arith in g)
+      ∙ ap row_state (single-front Y.base.prime t c x h.0 h.1)
 
   pub value-tails : (x : List ℕ) → IsNormal Y.base.prime Y.width x → state_value (word_from Y.base.rank x) ≡ row_state x
   value-tails x h =
@@ -211,7 +202,7 @@ module _ (Y : RowedPresentation) (rowed : IsRowed Y) (big : 1 < Y.base.prime) (a
       ∙ star-row_state (push_word (plain Y Y.base.rank 0) (identity Y Y.base.rank) u) x
 
   -- a letter of a tail commutes with each word
-  pub value-letter_of_tail : (t : ℕ) → t < Y.width → state_value (letter (Y.base.rank + t)) ≡ row_state (entry_row Y.width t 1)
+  pub value-letter_of_tail : (t : ℕ) → t < Y.width → state_value (letter (Y.base.rank + t)) ≡ row_state (single Y.width t 1)
   value-letter_of_tail t l = value_in-letter states all_states (pos (suc (Y.base.rank + t))) ∙ all_states-tail t l
 
   row_state-star : (x : List ℕ) (s : State) → IsNormal Y.base.prime Y.width x → IsState Y Y.base.rank s → star Y Y.base.rank 0 (row_state x) s ≡ add_row Y.base.prime x s
@@ -223,11 +214,11 @@ module _ (Y : RowedPresentation) (rowed : IsRowed Y) (big : 1 < Y.base.prime) (a
   pub value-tail_commutes : (t : ℕ) (w : List ℤ) → t < Y.width → state_value (letter (Y.base.rank + t) ++ w) ≡ state_value (w ++ letter (Y.base.rank + t))
   value-tail_commutes t w l =
       let z : List ℤ = letter (Y.base.rank + t) in
-      let x : List ℕ = entry_row Y.width t 1 in
+      let x : List ℕ = single Y.width t 1 in
       let v : ValidState Y Y.base.rank = value_in states all_states w in
       value_in-append states all_states z w
       ∙ ap (λ (s : State). star Y Y.base.rank 0 s (state_value w)) (value-letter_of_tail t l)
-      ∙ row_state-star x v.state (entry_row-normal Y.base.prime Y.width t 1 big) v.valid
+      ∙ row_state-star x v.state (single-normal Y.base.prime Y.width t 1 big) v.valid
       ∙ sym (value_in-append states all_states w z
       ∙ ap (star Y Y.base.rank 0 (state_value w)) (value-letter_of_tail t l)
       ∙ star-row_state v.state x)
@@ -261,8 +252,8 @@ module _ (Y : RowedPresentation) (rowed : IsRowed Y) (big : 1 < Y.base.prime) (a
   tail_power-value t l =
       let r : ℕ = Y.width - suc t in
       value-copies_of_tail t Y.base.prime l
-      ∙ ap (λ (m : ℕ). row_state (entry_row Y.width t m)) (mod_self Y.base.prime)
-      ∙ ap row_state (entry_row-zero Y.width t)
+      ∙ ap (λ (m : ℕ). row_state (single Y.width t m)) (mod_self Y.base.prime)
+      ∙ ap row_state (single-zero Y.width t)
       ∙ ap state_value (sym (ap (word_from (suc (Y.base.rank + t))) (power_side-tail Y rowed t r (omega arith)) ∙ word_from-zeros (suc (Y.base.rank + t)) r))
 
   tail_swap-value : (t i : ℕ) → t < Y.width → i < Y.base.rank + t

@@ -1,22 +1,22 @@
 -- In the flat reading the words of rows commute with the generators and add up as the rows do. So the ends of a directed
 -- run are joined there, and a push of the plain rule is joined to the word with the letter behind it.
-use Rattle.std.proofs.Common.{◌≡◌, ℕ, zero, suc, ◌+◌, ◌-◌, ◌*◌, ◌/◌, ◌%◌, ◌<◌, ◌≤◌, ℤ, pos, List, [], ◌∷◌, ◌++◌, length, replicate, refl, ap, sym, ◌∙◌, subst, arith, append_assoc}
+use Rattle.std.proofs.Common.{◌≡◌, ℕ, zero, suc, ◌+◌, ◌-◌, ◌*◌, ◌/◌, ◌%◌, ◌<◌, ℤ, List, [], ◌∷◌, ◌++◌, length, ap, sym, ◌∙◌, subst, arith, append_assoc}
 use Rattle.std.proofs.lemmas.List.{append-nil}
-use Rattle.std.proofs.Math.Nat.{div-add-mod, add-mod-mod}
+use Rattle.std.proofs.Math.Nat.{div-add-mod}
 use Rattle.pq_base.specs.SignedWord.{copies, comm}
 use Rattle.pq_base.specs.Table.{AllBelow}
 use Rattle.pq_base.specs.Presentation.{Presentation, IsNormal, letter, word_from, power_side, commutator_side, power_word, commutator_word}
 use Rattle.pq_base.specs.Joined.{Joined}
 use Rattle.pq_base.proofs.WordLaws.{copies-add, copies-mul, copies-nil, word_from-zeros}
-use Rattle.pq_base.proofs.JoinedLaws.{joined-refl, joined-from_equal, joined-sym, joined-trans, joined-append, joined-append_left, joined-append_right, joined-copies, joined-drop, power-joined, commutator-joined, letter-swap-joined, commute-from_comm}
+use Rattle.pq_base.proofs.JoinedLaws.{joined-refl, joined-from_equal, joined-sym, joined-trans, joined-append, joined-append_left, joined-append_right, joined-copies, power-joined, commutator-joined, letter-swap-joined, commute-from_comm}
 use Rattle.pc_presentation.specs.Rowed.{RowedPresentation, IsRowed, power_row, commutator_row, row_sum, flat}
-use Rattle.pc_presentation.specs.Collection.{Configuration, State, IsState, Step, Run, Replacement, DirectedRun, spelled, letters, signed_word, configuration_of, plain_push}
+use Rattle.pc_presentation.specs.Collection.{Configuration, State, IsState, Step, Replacement, DirectedRun, spelled, letters, signed_word, configuration_of, plain_push}
 use Rattle.pc_presentation.specs.Collection.Step.{replace}
 use Rattle.pc_presentation.specs.Collection.Run.{stop, move}
 use Rattle.pc_presentation.specs.Collection.Replacement.{swap, power}
 use Rattle.pc_presentation.specs.CollectionLaws.{DirectedRunsAreJoined, PlainPushesAreJoined}
 use Rattle.pc_presentation.proofs.RowLaws.{row_sum-comm, row_sum-normal}
-use Rattle.pc_presentation.proofs.PlainRuns.{plain_push-run, AllBelow-append, AllBelow-replicate, AllBelow-spelled}
+use Rattle.pc_presentation.proofs.PlainRuns.{plain_push-run, AllBelow-append, AllBelow-spelled}
 use Rattle.pc_presentation.proofs.LetterWords.{letters-append, letters-replicate, side_word}
 use Rattle.pc_presentation.proofs.FlatLaws.{power_side-flat, power_side-tail, commutator_side-flat, commutator_side-tail}
 

@@ -3,11 +3,13 @@
 -- M. R. Vaughan-Lee, An aspect of the nilpotent quotient algorithm, 1984.
 use Rattle.std.specs.Prelude.{◌≡◌, ◌<◌, ◌+◌, ◌%◌, ℕ, ℤ, List, ◌++◌, get_or}
 use Rattle.pq_base.specs.SignedWord.{HasLetters}
-use Rattle.pq_base.specs.Table.{AllBelow}
-use Rattle.pq_base.specs.Presentation.{Presentation, IsPresentation, IsNormal, letter}
+use Rattle.pq_base.specs.Table.{Table, IsGroup, AllBelow, value, InLevel}
+use Rattle.pq_base.specs.Presentation.{Presentation, IsPresentation, IsRelatorOf, IsNormal, letter}
 use Rattle.pq_base.specs.Joined.{Joined, Reaches, IsConsistent}
+use Rattle.pq_base.specs.Series.{InSeries}
 use Rattle.pc_presentation.specs.Rowed.{RowedPresentation, IsRowed, without_rows, flat}
 use Rattle.pc_presentation.specs.Collection.{Configuration, State, IsState, configuration_of, signed_word, DirectedRun, add_row, plain_push}
+use Rattle.pc_presentation.specs.NormalTable.{NormalWordsAreATable}
 use Rattle.pc_presentation.specs.Overlaps.{Overlap, IsOverlap, AgreesPlainly, IsPushed, Agrees}
 
 -- a push of the plain rule is a directed run to a state
@@ -57,3 +59,13 @@ AgreeingOverlapsMakeConsistentWithoutRows = (P : Presentation) → IsPresentatio
 -- an overlap that agrees under the plain rule agrees by some chains
 abbrev pub PlainAgreementIsAgreement : Type 0
 PlainAgreementIsAgreement = (Y : RowedPresentation) → IsRowed Y → 1 < Y.base.prime → (o : Overlap) → IsOverlap Y.base.rank o → AgreesPlainly Y o → Agrees Y o
+
+-- the normal words of a consistent presentation form a group table, in which words are joined exactly where their values
+-- are equal
+abbrev pub ConsistentPresentationsHaveTables : Type 0
+ConsistentPresentationsHaveTables = (P : Presentation) → IsPresentation P → 1 < P.prime → IsConsistent P → NormalWordsAreATable P
+
+-- elements of a group table at which each relator has value 0 carry each level of the series to that level of the table
+abbrev pub ValuesCarryTheSeries : Type 0
+ValuesCarryTheSeries = (P : Presentation) (T : Table) (f : List ℕ) → IsGroup T → AllBelow T.size f → ((r : List ℤ) → IsRelatorOf P r → value T f r ≡ 0)
+    → (k : ℕ) (w : List ℤ) → InSeries P k w → InLevel T P.prime k (value T f w)

@@ -1,4 +1,5 @@
 pub mod Rowed
 pub mod Collection
 pub mod Overlaps
+pub mod NormalTable
 pub mod CollectionLaws

@@ -1,6 +1,6 @@
 //! Laws of collection: each function does nothing, and its clause is a theorem.
 
-ghost use Rattle.pc_presentation.specs.CollectionLaws.{PlainPushesAreRuns, RowsRideAlong, EarlierExponentsAreFinal, DirectedRunsAreJoined, PlainPushesAreJoined, WordsReachNormalWords, AgreeingOverlapsMakeConsistent, AgreeingOverlapsMakeConsistentWithoutRows, PlainAgreementIsAgreement};
+ghost use Rattle.pc_presentation.specs.CollectionLaws.{PlainPushesAreRuns, RowsRideAlong, EarlierExponentsAreFinal, DirectedRunsAreJoined, PlainPushesAreJoined, WordsReachNormalWords, AgreeingOverlapsMakeConsistent, AgreeingOverlapsMakeConsistentWithoutRows, PlainAgreementIsAgreement, ConsistentPresentationsHaveTables, ValuesCarryTheSeries};
 
 /// A push of the plain rule is a directed run from the word with the letter behind it to a state.
 pub fn plain_pushes_are_runs()
@@ -56,4 +56,18 @@ pub fn agreeing_overlaps_make_consistent_without_rows()
 #[tactic(auto, using(crate::proofs::Consistency::plain_agreement_is_agreement))]
 pub fn plain_agreement_is_agreement()
     ensures { PlainAgreementIsAgreement }
+{}
+
+/// The normal words of a consistent presentation, numbered by their exponents as digits to the base of the prime, form a
+/// group table under the plain rule's pushes. Its generators satisfy the relators, and words are joined exactly where
+/// their values there are equal.
+pub fn consistent_presentations_have_tables()
+    ensures { ConsistentPresentationsHaveTables }
+{}
+
+/// Elements of a group table at which each relator has value 0 carry each word of a level of the series to that level of
+/// the table.
+#[tactic(auto, using(crate::proofs::SeriesValues::values_carry_the_series))]
+pub fn values_carry_the_series()
+    ensures { ValuesCarryTheSeries }
 {}

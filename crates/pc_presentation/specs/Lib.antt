@@ -5,3 +5,8 @@ pub mod Pcp
 pub mod Builder
 pub mod Definition
 pub mod Parts
+pub mod Rowed
+pub mod Collection
+pub mod Overlaps
+pub mod NormalTable
+pub mod CollectionLaws

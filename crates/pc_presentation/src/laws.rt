@@ -1,0 +1,73 @@
+//! Laws of collection: each function does nothing, and its clause is a theorem.
+
+ghost use Rattle.pc_presentation.specs.CollectionLaws.{PlainPushesAreRuns, RowsRideAlong, EarlierExponentsAreFinal, DirectedRunsAreJoined, PlainPushesAreJoined, WordsReachNormalWords, AgreeingOverlapsMakeConsistent, AgreeingOverlapsMakeConsistentWithoutRows, PlainAgreementIsAgreement, ConsistentPresentationsHaveTables, ValuesCarryTheSeries};
+
+/// A push of the plain rule is a directed run from the word with the letter behind it to a state.
+pub fn plain_pushes_are_runs()
+    ensures { PlainPushesAreRuns }
+{}
+
+/// Rows ride along: a row that is added before a push of the plain rule is added behind it.
+#[tactic(auto, using(crate::proofs::Consistency::rows_ride_along))]
+pub fn rows_ride_along()
+    ensures { RowsRideAlong }
+{}
+
+/// Each run that pushes a generator on a state leaves the earlier exponents, and raises the generator's own by one modulo
+/// the prime, whatever its steps are.
+#[tactic(auto, using(crate::proofs::FinalExponents::earlier_exponents_are_final))]
+pub fn earlier_exponents_are_final()
+    ensures { EarlierExponentsAreFinal }
+{}
+
+/// The ends of a directed run are joined in the flat reading, where the tails are the last generators.
+#[tactic(auto, using(crate::proofs::TailLaws::directed_runs_are_joined))]
+pub fn directed_runs_are_joined()
+    ensures { DirectedRunsAreJoined }
+{}
+
+/// A push of the plain rule is joined in the flat reading to the word of the state with the letter behind it.
+#[tactic(auto, using(crate::proofs::TailLaws::plain_pushes_are_joined))]
+pub fn plain_pushes_are_joined()
+    ensures { PlainPushesAreJoined }
+{}
+
+/// In every presentation each signed word over the generators is joined to a normal word. This is the half of
+/// consistency that asks nothing.
+#[tactic(auto, using(crate::proofs::Consistency::words_reach_normal_words))]
+pub fn words_reach_normal_words()
+    ensures { WordsReachNormalWords }
+{}
+
+/// The consistency theorem: where for each overlap some chains of pushes of its two ways end alike, distinct normal words
+/// of the flat reading are distinct elements.
+#[tactic(auto, using(crate::proofs::Consistency::agreeing_overlaps_make_consistent))]
+pub fn agreeing_overlaps_make_consistent()
+    ensures { AgreeingOverlapsMakeConsistent }
+{}
+
+/// The consistency theorem for presentations without rows.
+#[tactic(auto, using(crate::proofs::Consistency::agreeing_overlaps_make_consistent_without_rows))]
+pub fn agreeing_overlaps_make_consistent_without_rows()
+    ensures { AgreeingOverlapsMakeConsistentWithoutRows }
+{}
+
+/// An overlap whose two ways reach one state by the plain rule agrees by some chains of pushes.
+#[tactic(auto, using(crate::proofs::Consistency::plain_agreement_is_agreement))]
+pub fn plain_agreement_is_agreement()
+    ensures { PlainAgreementIsAgreement }
+{}
+
+/// The normal words of a consistent presentation, numbered by their exponents as digits to the base of the prime, form a
+/// group table under the plain rule's pushes. Its generators satisfy the relators, and words are joined exactly where
+/// their values there are equal.
+pub fn consistent_presentations_have_tables()
+    ensures { ConsistentPresentationsHaveTables }
+{}
+
+/// Elements of a group table at which each relator has value 0 carry each word of a level of the series to that level of
+/// the table.
+#[tactic(auto, using(crate::proofs::SeriesValues::values_carry_the_series))]
+pub fn values_carry_the_series()
+    ensures { ValuesCarryTheSeries }
+{}

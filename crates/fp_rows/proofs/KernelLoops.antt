@@ -5,12 +5,9 @@ use Rattle.std.proofs.Math.ListN.{set}
 use Rattle.pq_base.specs.Table.{AllBelow}
 use Rattle.pq_base.proofs.TableLaws.{get_or-below}
 use Rattle.fp_rows.specs.Rows.{scale_row, add_scaled}
-use Rattle.fp_rows.proofs.RowLaws.{length-add_rows, length-scale_row}
+use Rattle.fp_rows.proofs.RowLaws.{length-scale_row, length-add_scaled}
 use Rattle.fp_rows.proofs.EntryLaws.{get_or-add_scaled, get_or-scale_row}
 use Rattle.fp_rows.proofs.PlaceByPlace.{SumFits, sum_fits, written_get, written_more, written_all}
-
-pub length-add_scaled : (p k : ℕ) (xs ys : List ℕ) → length xs ≡ length ys → length (add_scaled p k xs ys) ≡ length xs
-length-add_scaled p k xs ys e = length-add_rows p xs (scale_row p k ys) (e ∙ sym (length-scale_row p k ys))
 
 module _ (p k : ℕ) (xs ys zs : List ℕ) (i : ℕ) (some : 0 < p) (e : length xs ≡ length ys)
     (written : zs ≡ take i (add_scaled p k xs ys) ++ drop i xs) where

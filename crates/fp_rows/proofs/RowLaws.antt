@@ -19,6 +19,9 @@ pub length-scale_row : (p k : ℕ) (xs : List ℕ) → length (scale_row p k xs)
 length-scale_row p k [] = refl
 length-scale_row p k (x ∷ xs) = ap (λ (n : ℕ). suc n) (length-scale_row p k xs)
 
+pub length-add_scaled : (p k : ℕ) (xs ys : List ℕ) → length xs ≡ length ys → length (add_scaled p k xs ys) ≡ length xs
+length-add_scaled p k xs ys e = length-add_rows p xs (scale_row p k ys) (e ∙ sym (length-scale_row p k ys))
+
 pub add_rows-below : (p : ℕ) (xs ys : List ℕ) → 0 < p → AllBelow p (add_rows p xs ys)
 add_rows-below p [] ys h = tt
 add_rows-below p (x ∷ xs) [] h = tt

@@ -65,7 +65,8 @@ impl Row {
         ensures entry { result ≡ at_column self.now.entries column }
         ensures residue { result < self.now.prime }
     {
-        self.entries[column as usize - 1]
+        let place = column as usize - 1;
+        self.entries[place]
     }
 
     /// Replaces the entry at a column.

@@ -24,3 +24,5 @@ pub mod SeriesValues
 pub mod DigitLaws
 pub mod NormalProducts
 pub mod NormalTableLaws
+pub mod Quotients
+pub mod CollectorArithmetic

@@ -1,5 +1,6 @@
 pub mod Rowed
 pub mod Collection
 pub mod Overlaps
+pub mod Arithmetic
 pub mod NormalTable
 pub mod CollectionLaws

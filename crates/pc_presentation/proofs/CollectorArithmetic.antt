@@ -19,7 +19,8 @@ use Rattle.pc_presentation.proofs.PlainRule.{spelled-suc, spelled-zeros}
 use Rattle.pc_presentation.proofs.PlainRuns.{AllBelow-append, AllBelow-spelled}
 use Rattle.pc_presentation.proofs.RunLaws.{RunFrom, replacement_from, run-weaken}
 use Rattle.pc_presentation.proofs.StateProducts.{push_configuration-identity}
-use Rattle.pc_presentation.proofs.StepShapes.{StepAt, IsIrreducible, step-suffix, placed_step, spelled-irreducible}
+use Rattle.pc_presentation.proofs.StepPlaces.{StepAt, IsIrreducible, step-suffix, placed_step}
+use Rattle.pc_presentation.proofs.StepShapes.{spelled-irreducible}
 use Rattle.pc_presentation.proofs.AnyRun.{same_behind}
 use Rattle.pc_presentation.proofs.TailLaws.{row_words-add, run-joined_flat, letter-behind}
 use Rattle.pc_presentation.proofs.Quotients.{push-spelled, product-state, is_quotient}

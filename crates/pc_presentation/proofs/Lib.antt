@@ -6,6 +6,7 @@ pub mod PlainRuns
 pub mod StateProducts
 pub mod PassedStates
 pub mod RelationsAct
+pub mod StepPlaces
 pub mod StepShapes
 pub mod PassShapes
 pub mod AnyRun
@@ -14,7 +15,10 @@ pub mod OverlapsAct
 pub mod FlatLaws
 pub mod LetterWords
 pub mod StateGroup
+pub mod SingleRows
+pub mod GroupRelators
 pub mod StateValues
+pub mod StateRelators
 pub mod Reached
 pub mod Consistency
 pub mod CollectionVectors

@@ -13,7 +13,8 @@ use Rattle.pc_presentation.proofs.PlainRule.{plain, plain-later, plain-rides, pl
 use Rattle.pc_presentation.proofs.RunLaws.{ReplacementFrom, RunFrom}
 use Rattle.pc_presentation.proofs.StateProducts.{RelationsAct, push_configuration-snoc}
 use Rattle.pc_presentation.proofs.PassedStates.{past, full_power, past-state, full_power-state, first-raise, first-full}
-use Rattle.pc_presentation.proofs.StepShapes.{StepAt, IsIrreducible, step-suffix, step-behind, map-injective, spelled-irreducible, PlacedStep, placed_step, step_of_place}
+use Rattle.pc_presentation.proofs.StepPlaces.{StepAt, IsIrreducible, step-suffix, PlacedStep, placed_step, step_of_place}
+use Rattle.pc_presentation.proofs.StepShapes.{step-behind, map-injective, spelled-irreducible}
 use Rattle.pc_presentation.proofs.PassShapes.{late, LateStep, late_step}
 use Rattle.pc_presentation.proofs.PassShapes.LateStep.{inside, passes, full}
 

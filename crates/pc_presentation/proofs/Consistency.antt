@@ -20,7 +20,7 @@ use Rattle.pc_presentation.proofs.OverlapsFrom.OverlapFrom.{triple_from, left_fr
 use Rattle.pc_presentation.proofs.OverlapsFrom.PushChainFrom.{none_from, then_from}
 use Rattle.pc_presentation.proofs.OverlapsAct.{overlaps-act}
 use Rattle.pc_presentation.proofs.FlatLaws.{flat-presentation, flat-without_rows, without_rows-rowed}
-use Rattle.pc_presentation.proofs.StateValues.{normal_words-unique}
+use Rattle.pc_presentation.proofs.StateRelators.{normal_words-unique}
 use Rattle.pc_presentation.proofs.Reached.{words-reach}
 
 -- chains of pushes at the first generator

@@ -11,7 +11,8 @@ use Rattle.pc_presentation.specs.CollectionLaws.{ExponentsAfterPush, EarlierExpo
 use Rattle.pc_presentation.proofs.RowLaws.{is_before}
 use Rattle.pc_presentation.proofs.PlainRule.{spelled-suc}
 use Rattle.pc_presentation.proofs.RunLaws.{RunFrom, replacement_from, run-weaken}
-use Rattle.pc_presentation.proofs.StepShapes.{StepAt, IsIrreducible, step-suffix, step-behind, spelled-irreducible, placed_step, step_of_place}
+use Rattle.pc_presentation.proofs.StepPlaces.{StepAt, IsIrreducible, step-suffix, placed_step, step_of_place}
+use Rattle.pc_presentation.proofs.StepShapes.{step-behind, spelled-irreducible}
 use Rattle.pc_presentation.proofs.PassShapes.{late, LateStep, late_step}
 use Rattle.pc_presentation.proofs.PassShapes.LateStep.{inside, passes, full}
 use Rattle.pc_presentation.proofs.AnyRun.{same_behind, same_late}

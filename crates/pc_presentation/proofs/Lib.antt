@@ -19,6 +19,7 @@ pub mod PlainRuns
 pub mod StateProducts
 pub mod PassedStates
 pub mod RelationsAct
+pub mod StepPlaces
 pub mod StepShapes
 pub mod PassShapes
 pub mod AnyRun
@@ -27,7 +28,10 @@ pub mod OverlapsAct
 pub mod FlatLaws
 pub mod LetterWords
 pub mod StateGroup
+pub mod SingleRows
+pub mod GroupRelators
 pub mod StateValues
+pub mod StateRelators
 pub mod Reached
 pub mod Consistency
 pub mod CollectionVectors
@@ -37,3 +41,5 @@ pub mod SeriesValues
 pub mod DigitLaws
 pub mod NormalProducts
 pub mod NormalTableLaws
+pub mod Quotients
+pub mod CollectorArithmetic

@@ -12,7 +12,7 @@ use Rattle.pq_base.proofs.JoinedLaws.{joined-sym, joined-trans, joined-from_equa
 use Rattle.pq_base.proofs.TableLaws.{times-inverse, inverse-below, get_or-below, element-below, value-below}
 use Rattle.pc_presentation.specs.NormalTable.{list_from, single, number_of, digits, product_of, normal_table, generator_numbers, NormalWordsAreATable}
 use Rattle.pc_presentation.specs.CollectionLaws.{ConsistentPresentationsHaveTables}
-use Rattle.pc_presentation.proofs.StateValues.{length-list_from, get_or-list_from, single-normal}
+use Rattle.pc_presentation.proofs.SingleRows.{length-list_from, get_or-list_from, single-normal}
 use Rattle.pc_presentation.proofs.DigitLaws.{digits-normal, digits-number_of, number_of-below, number_of-digits, number_of-zeros, digits-zero, power-positive}
 use Rattle.pc_presentation.proofs.NormalProducts.{product_of-normal, product_of-joined, inverse_exponents, zeros-word, product_of-assoc, product_of-zeros_left, product_of-zeros_right, inverse-joined, product_of-inverse_left}
 

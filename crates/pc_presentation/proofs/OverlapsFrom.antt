@@ -10,7 +10,8 @@ use Rattle.pc_presentation.proofs.RowLaws.{is_before}
 use Rattle.pc_presentation.proofs.PlainRule.{plain, spelled-suc, map-replicate}
 use Rattle.pc_presentation.proofs.RunLaws.{RunFrom, later}
 use Rattle.pc_presentation.proofs.StateProducts.{RelationsAct}
-use Rattle.pc_presentation.proofs.StepShapes.{StepAt, step-later, placed_step, step_of_place}
+use Rattle.pc_presentation.proofs.StepPlaces.{StepAt, placed_step, step_of_place}
+use Rattle.pc_presentation.proofs.StepShapes.{step-later}
 use Rattle.pc_presentation.proofs.AnyRun.{any_run, same_behind}
 
 -- both ways begin with a; then the one goes on with l, and the other with r and the row t

@@ -8,7 +8,8 @@ use Rattle.pc_presentation.specs.Collection.{spelled}
 use Rattle.pc_presentation.proofs.PlainRule.{spelled-suc}
 use Rattle.pc_presentation.proofs.RunLaws.{ReplacementFrom}
 use Rattle.pc_presentation.proofs.RunLaws.ReplacementFrom.{swap_from, power_from}
-use Rattle.pc_presentation.proofs.StepShapes.{StepAt, IsIrreducible, AtFront, first_letter, step-prefix, step-later, front_zero}
+use Rattle.pc_presentation.proofs.StepPlaces.{StepAt, IsIrreducible, AtFront, first_letter, step-prefix}
+use Rattle.pc_presentation.proofs.StepShapes.{step-later, front_zero}
 
 -- e copies of the first generator, the later letters v, the first generator, the later letters u
 abbrev pub late : ℕ → List ℕ → List ℕ → List ℕ

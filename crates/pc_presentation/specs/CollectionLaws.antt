@@ -9,6 +9,7 @@ use Rattle.pq_base.specs.Joined.{Joined, Reaches, IsConsistent}
 use Rattle.pq_base.specs.Series.{InSeries}
 use Rattle.pc_presentation.specs.Rowed.{RowedPresentation, IsRowed, without_rows, flat}
 use Rattle.pc_presentation.specs.Collection.{Configuration, State, IsState, configuration_of, signed_word, DirectedRun, add_row, plain_push}
+use Rattle.pc_presentation.specs.Arithmetic.{IsMeaning, HasArithmetic}
 use Rattle.pc_presentation.specs.NormalTable.{NormalWordsAreATable}
 use Rattle.pc_presentation.specs.Overlaps.{Overlap, IsOverlap, AgreesPlainly, IsPushed, Agrees}
 
@@ -69,3 +70,11 @@ ConsistentPresentationsHaveTables = (P : Presentation) → IsPresentation P → 
 abbrev pub ValuesCarryTheSeries : Type 0
 ValuesCarryTheSeries = (P : Presentation) (T : Table) (f : List ℕ) → IsGroup T → AllBelow T.size f → ((r : List ℤ) → IsRelatorOf P r → value T f r ≡ 0)
     → (k : ℕ) (w : List ℤ) → InSeries P k w → InLevel T P.prime k (value T f w)
+
+-- the plain rule is the meaning of a collector
+abbrev pub PlainRuleIsAMeaning : Type 0
+PlainRuleIsAMeaning = (Y : RowedPresentation) → IsRowed Y → 0 < Y.base.prime → IsMeaning Y (plain_push Y)
+
+-- the arithmetic of each collector, also in presentations that are not consistent
+abbrev pub CollectorsHaveArithmetic : Type 0
+CollectorsHaveArithmetic = (Y : RowedPresentation) → IsRowed Y → 1 < Y.base.prime → (push : State → ℕ → State) → IsMeaning Y push → HasArithmetic Y push

@@ -1,6 +1,6 @@
 //! Laws of collection: each function does nothing, and its clause is a theorem.
 
-ghost use Rattle.pc_presentation.specs.CollectionLaws.{PlainPushesAreRuns, RowsRideAlong, EarlierExponentsAreFinal, DirectedRunsAreJoined, PlainPushesAreJoined, WordsReachNormalWords, AgreeingOverlapsMakeConsistent, AgreeingOverlapsMakeConsistentWithoutRows, PlainAgreementIsAgreement, ConsistentPresentationsHaveTables, ValuesCarryTheSeries};
+ghost use Rattle.pc_presentation.specs.CollectionLaws.{PlainPushesAreRuns, RowsRideAlong, EarlierExponentsAreFinal, DirectedRunsAreJoined, PlainPushesAreJoined, WordsReachNormalWords, AgreeingOverlapsMakeConsistent, AgreeingOverlapsMakeConsistentWithoutRows, PlainAgreementIsAgreement, ConsistentPresentationsHaveTables, ValuesCarryTheSeries, PlainRuleIsAMeaning, CollectorsHaveArithmetic};
 
 /// A push of the plain rule is a directed run from the word with the letter behind it to a state.
 pub fn plain_pushes_are_runs()
@@ -70,4 +70,15 @@ pub fn consistent_presentations_have_tables()
 #[tactic(auto, using(crate::proofs::SeriesValues::values_carry_the_series))]
 pub fn values_carry_the_series()
     ensures { ValuesCarryTheSeries }
+{}
+
+/// The plain rule is the meaning of a collector: a function each value of which a directed run reaches.
+pub fn plain_rule_is_a_meaning()
+    ensures { PlainRuleIsAMeaning }
+{}
+
+/// Over each collector, also where the presentation is not consistent, there is exactly one quotient of two states, and
+/// products, inverses, commutators and values are joined to the words of these names.
+pub fn collectors_have_arithmetic()
+    ensures { CollectorsHaveArithmetic }
 {}

@@ -4,6 +4,13 @@ pub mod Words
 pub mod Items
 pub mod Limits
 pub mod Reads
+pub mod Trees
+pub mod Parser
+pub mod Trials
+pub mod Faults
+pub mod Verdicts
+pub mod TriedSoFar
+pub mod ReaderLaws
 pub mod Narrow
 pub mod Front
 pub mod Left

@@ -2,6 +2,7 @@
 //! means a presentation and has the form that is built.
 #![tactic(auto)]
 
+pub mod laws;
 mod line;
 mod presentation;
 mod reading;

@@ -83,7 +83,7 @@ module _ (Y : RowedPresentation) (rowed : IsRowed Y) (big : 1 < Y.base.prime) (p
       (run-joined_flat Y rowed (omega arith) (meaning.pushed s i h l).run
       (AllBelow-append Y.base.rank (spelled 0 s.exponents) (i ∷ []) (AllBelow-spelled Y.base.rank 0 s.exponents (omega arith)) (l, tt)) h.row)
 
-  push_word-joined : (u : List ℕ) (s : State) → IsState Y Y.base.rank s → AllBelow Y.base.rank u
+  pub push_word-joined : (u : List ℕ) (s : State) → IsState Y Y.base.rank s → AllBelow Y.base.rank u
       → Joined (flat Y) (word_of Y s ++ letters u) (word_of Y (push_word push s u))
   push_word-joined [] s h b = joined-from_equal (flat Y) (append-nil (word_of Y s))
   push_word-joined (i ∷ u) s h b =
@@ -105,7 +105,7 @@ module _ (Y : RowedPresentation) (rowed : IsRowed Y) (big : 1 < Y.base.prime) (p
       (joined-trans (joined-append_right (word_from Y.base.rank v.row) (joined-sym pushed))
       (joined-from_equal (flat Y) (append_assoc (word_of Y u) (letters w) (word_from Y.base.rank v.row)))))
 
-  identity-word : word_of Y (identity Y Y.base.rank) ≡ []
+  pub identity-word : word_of Y (identity Y Y.base.rank) ≡ []
   identity-word =
       ap (λ (u : List ℕ). letters u ++ word_from Y.base.rank (replicate Y.width 0)) (spelled-zeros 0 Y.base.rank) ∙ word_from-zeros Y.base.rank Y.width
 

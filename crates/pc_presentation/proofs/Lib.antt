@@ -30,3 +30,6 @@ pub mod NormalProducts
 pub mod NormalTableLaws
 pub mod Quotients
 pub mod CollectorArithmetic
+pub mod RowMaps
+pub mod ConsistentPushes
+pub mod ConsistentOverlaps

@@ -33,3 +33,4 @@ pub mod CollectorArithmetic
 pub mod RowMaps
 pub mod ConsistentPushes
 pub mod ConsistentOverlaps
+pub mod LevelWords

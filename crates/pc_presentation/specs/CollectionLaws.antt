@@ -1,16 +1,16 @@
 -- What is proved of collection. Each statement is the contract of a function of `laws`.
 -- From: the theory of polycyclic presentations; that agreeing overlaps make a presentation consistent is due to
 -- M. R. Vaughan-Lee, An aspect of the nilpotent quotient algorithm, 1984.
-use Rattle.std.specs.Prelude.{◌≡◌, ◌<◌, ◌+◌, ◌%◌, ℕ, ℤ, List, ◌++◌, get_or}
+use Rattle.std.specs.Prelude.{◌≡◌, ◌↔◌, ◌<◌, ◌+◌, ◌%◌, ℕ, ℤ, List, ◌++◌, get_or}
 use Rattle.pq_base.specs.SignedWord.{HasLetters}
-use Rattle.pq_base.specs.Table.{Table, IsGroup, AllBelow, value, InLevel}
+use Rattle.pq_base.specs.Table.{Table, IsGroup, AllBelow, value, InLevel, HasTableClass}
 use Rattle.pq_base.specs.Presentation.{Presentation, IsPresentation, IsRelatorOf, IsNormal, letter, word_from}
 use Rattle.pq_base.specs.Joined.{Joined, Reaches, IsConsistent}
-use Rattle.pq_base.specs.Series.{InSeries}
+use Rattle.pq_base.specs.Series.{InSeries, HasClass}
 use Rattle.pc_presentation.specs.Rowed.{RowedPresentation, IsRowed, power_row, commutator_row, row_sum, without_rows, flat}
 use Rattle.pc_presentation.specs.Collection.{Configuration, State, IsState, identity, configuration_of, signed_word, DirectedRun, add_row, push_configuration, plain_push}
 use Rattle.pc_presentation.specs.Arithmetic.{IsMeaning, HasArithmetic}
-use Rattle.pc_presentation.specs.NormalTable.{NormalWordsAreATable}
+use Rattle.pc_presentation.specs.NormalTable.{normal_table, NormalWordsAreATable}
 use Rattle.pc_presentation.specs.Overlaps.{Overlap, IsOverlap, left_way, right_way, AgreesPlainly, IsPushed, Agrees}
 
 -- a push of the plain rule is a directed run to a state
@@ -70,6 +70,19 @@ ConsistentPresentationsHaveTables = (P : Presentation) → IsPresentation P → 
 abbrev pub ValuesCarryTheSeries : Type 0
 ValuesCarryTheSeries = (P : Presentation) (T : Table) (f : List ℕ) → IsGroup T → AllBelow T.size f → ((r : List ℤ) → IsRelatorOf P r → value T f r ≡ 0)
     → (k : ℕ) (w : List ℤ) → InSeries P k w → InLevel T P.prime k (value T f w)
+
+-- where moreover each element of the table is a value, each element of a level is the value of a word of that level, so the
+-- table has the class of the presentation
+abbrev pub IsGeneratedBy : Table → List ℕ → ℕ → Type 0
+IsGeneratedBy T f n = (x : ℕ) → x < T.size → (w : List ℤ) × HasLetters n w × (value T f w ≡ x)
+
+abbrev pub GeneratedTablesHaveTheClass : Type 0
+GeneratedTablesHaveTheClass = (P : Presentation) (T : Table) (f : List ℕ) → IsGroup T → AllBelow T.size f → ((r : List ℤ) → IsRelatorOf P r → value T f r ≡ 0)
+    → IsGeneratedBy T f P.rank → (k : ℕ) → HasClass P k → HasTableClass T P.prime k
+
+-- the class of a consistent presentation is that of its table
+abbrev pub TablesHaveTheClass : Type 0
+TablesHaveTheClass = (P : Presentation) → IsPresentation P → 1 < P.prime → IsConsistent P → (k : ℕ) → HasClass P k ↔ HasTableClass (normal_table P) P.prime k
 
 -- the plain rule is the meaning of a collector
 abbrev pub PlainRuleIsAMeaning : Type 0

@@ -1,6 +1,6 @@
 //! Laws of collection: each function does nothing, and its clause is a theorem.
 
-ghost use Rattle.pc_presentation.specs.CollectionLaws.{PlainPushesAreRuns, RowsRideAlong, EarlierExponentsAreFinal, DirectedRunsAreJoined, PlainPushesAreJoined, WordsReachNormalWords, AgreeingOverlapsMakeConsistent, AgreeingOverlapsMakeConsistentWithoutRows, PlainAgreementIsAgreement, ConsistentPresentationsHaveTables, ValuesCarryTheSeries, PlainRuleIsAMeaning, CollectorsHaveArithmetic, ConsistentPushesAreUnique, ConsistentOverlapsAgree, PushesOverConsistentBase, OverlapsOverConsistentBase, RowMapsCarryPushes, RowMapsCarryRuns};
+ghost use Rattle.pc_presentation.specs.CollectionLaws.{PlainPushesAreRuns, RowsRideAlong, EarlierExponentsAreFinal, DirectedRunsAreJoined, PlainPushesAreJoined, WordsReachNormalWords, AgreeingOverlapsMakeConsistent, AgreeingOverlapsMakeConsistentWithoutRows, PlainAgreementIsAgreement, ConsistentPresentationsHaveTables, ValuesCarryTheSeries, PlainRuleIsAMeaning, CollectorsHaveArithmetic, ConsistentPushesAreUnique, ConsistentOverlapsAgree, PushesOverConsistentBase, OverlapsOverConsistentBase, RowMapsCarryPushes, RowMapsCarryRuns, GeneratedTablesHaveTheClass, TablesHaveTheClass};
 
 /// A push of the plain rule is a directed run from the word with the letter behind it to a state.
 pub fn plain_pushes_are_runs()
@@ -70,6 +70,17 @@ pub fn consistent_presentations_have_tables()
 #[tactic(auto, using(crate::proofs::SeriesValues::values_carry_the_series))]
 pub fn values_carry_the_series()
     ensures { ValuesCarryTheSeries }
+{}
+
+/// A group table each element of which is a value of a word has class at most that of the presentation, where each relator
+/// has value 0.
+pub fn generated_tables_have_the_class()
+    ensures { GeneratedTablesHaveTheClass }
+{}
+
+/// The class of a consistent presentation is the class of its table of normal words.
+pub fn tables_have_the_class()
+    ensures { TablesHaveTheClass }
 {}
 
 /// The plain rule is the meaning of a collector: a function each value of which a directed run reaches.

@@ -24,7 +24,7 @@ use Rattle.pc_presentation.proofs.StepShapes.{spelled-irreducible}
 use Rattle.pc_presentation.proofs.AnyRun.{same_behind}
 use Rattle.pc_presentation.proofs.TailLaws.{row_words-add, run-joined_flat, letter-behind}
 use Rattle.pc_presentation.proofs.Quotients.{push-spelled, product-state, is_quotient}
-use Rattle.pc_presentation.proofs.Consistency.{plain_pushes_are_runs}
+use Rattle.pc_presentation.proofs.Reached.{plain_meaning}
 
 -- a run from an irreducible word is empty
 run-irreducible : (Y : RowedPresentation) (k : ℕ) {c d : Configuration} → IsIrreducible Y k c.word → RunFrom Y k c d → c ≡ d
@@ -177,4 +177,4 @@ pub collectors_have_arithmetic : CollectorsHaveArithmetic
 collectors_have_arithmetic Y rowed big push meaning = has_arithmetic Y rowed big push meaning
 
 pub plain_rule_is_a_meaning : PlainRuleIsAMeaning
-plain_rule_is_a_meaning Y rowed positive = record { pushed = λ s i h l. plain_pushes_are_runs Y rowed positive s i h l }
+plain_rule_is_a_meaning Y rowed positive = plain_meaning Y rowed positive

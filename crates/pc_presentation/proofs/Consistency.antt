@@ -21,7 +21,7 @@ use Rattle.pc_presentation.proofs.OverlapsFrom.PushChainFrom.{none_from, then_fr
 use Rattle.pc_presentation.proofs.OverlapsAct.{overlaps-act}
 use Rattle.pc_presentation.proofs.FlatLaws.{flat-presentation, flat-without_rows, without_rows-rowed}
 use Rattle.pc_presentation.proofs.StateRelators.{normal_words-unique}
-use Rattle.pc_presentation.proofs.Reached.{words-reach}
+use Rattle.pc_presentation.proofs.Reached.{words-reach, plain_meaning}
 
 -- chains of pushes at the first generator
 chain_from : (Y : RowedPresentation) {s t : State} {w : List ℕ} → PushChain Y s w t → PushChainFrom Y Y.base.rank 0 s w t
@@ -137,7 +137,7 @@ module _ (Y : RowedPresentation) (rowed : IsRowed Y) (big : 1 < Y.base.prime) wh
       }
 
 pub plain_pushes_are_runs : PlainPushesAreRuns
-plain_pushes_are_runs Y rowed positive s i h l = record { run = plain_push-run Y rowed positive s i h l; state = plain-state Y rowed positive Y.base.rank 0 s i h }
+plain_pushes_are_runs Y rowed positive s i h l = (plain_meaning Y rowed positive).pushed s i h l
 
 pub rows_ride_along : RowsRideAlong
 rows_ride_along Y t s i = plain-rides Y Y.base.rank 0 t s i

@@ -3,7 +3,7 @@
 use Rattle.std.proofs.Common.{◌≡◌, ℕ, suc, pred, ◌<◌, ℤ, List, [], ◌∷◌, ◌++◌, replicate, ap, sym, subst, arith, append_assoc}
 use Rattle.std.proofs.lemmas.List.{append-nil}
 use Rattle.pq_base.specs.Table.{AllBelow}
-use Rattle.pq_base.specs.Presentation.{IsNormal, letter, word_from, normal_word, power_side, commutator_side}
+use Rattle.pq_base.specs.Presentation.{IsNormal, word_from, normal_word, power_side, commutator_side}
 use Rattle.pq_base.specs.Joined.{Joined, IsConsistent}
 use Rattle.pq_base.proofs.JoinedLaws.{joined-sym, joined-trans, joined-from_equal, joined-append_left, joined-append_right, joined-cancel_left}
 use Rattle.pc_presentation.specs.Rowed.{RowedPresentation, IsRowed, power_row, commutator_row, row_sum, flat}
@@ -17,8 +17,8 @@ use Rattle.pc_presentation.specs.Arithmetic.{IsMeaning, word_of}
 use Rattle.pc_presentation.specs.CollectionLaws.{ConsistentOverlapsAgree, SameUpToRow, OverlapsOverConsistentBase}
 use Rattle.pc_presentation.proofs.RowLaws.{zeros-row_sum, row_sum-normal, zeros-normal, identity-state}
 use Rattle.pc_presentation.proofs.PlainRule.{spelled-zeros}
-use Rattle.pc_presentation.proofs.LetterWords.{letters-append, letters-spelled}
-use Rattle.pc_presentation.proofs.Reached.{run-joined, state_word}
+use Rattle.pc_presentation.proofs.LetterWords.{letters-spelled}
+use Rattle.pc_presentation.proofs.Reached.{run-joined, push_word-joined_base, state_word}
 use Rattle.pc_presentation.proofs.Consistency.{replicate-snoc, left_way-below, right_way-below}
 use Rattle.pc_presentation.proofs.TailLaws.{row_words-add, run-joined_flat}
 use Rattle.pc_presentation.proofs.CollectorArithmetic.{push_word-joined, identity-word}
@@ -113,16 +113,6 @@ module _ (Y : RowedPresentation) (rowed : IsRowed Y) (big : 1 < Y.base.prime) wh
         (end-state (right_way Y o) (right_way-below Y rowed big o h) (right_way-row o h)) (ways-joined o h)
 
     -- the exponents alone, in the base
-    base-pushed : (u : List ℕ) (s : State) → IsState Y Y.base.rank s → AllBelow Y.base.rank u
-        → Joined Y.base (state_word s ++ letters u) (state_word (push_word push s u))
-    base-pushed [] s h b = joined-from_equal Y.base (append-nil (state_word s))
-    base-pushed (i ∷ u) s h b =
-        let m = meaning.pushed s i h b.0 in
-        let first : Joined Y.base (state_word s ++ letter i) (state_word (push s i)) =
-        subst (λ (w : List ℤ). Joined Y.base w (state_word (push s i))) (letters-append (spelled 0 s.exponents) (i ∷ [])) (run-joined Y m.run) in
-        joined-trans (joined-from_equal Y.base (sym (append_assoc (state_word s) (letter i) (letters u))))
-        (joined-trans (joined-append_right (letters u) first) (base-pushed u (push s i) m.state b.1))
-
     end-base : (c : Configuration) → AllBelow Y.base.rank c.word
         → Joined Y.base (letters c.word) (normal_word (push_configuration Y push (identity Y Y.base.rank) c).exponents)
     end-base c b =
@@ -131,7 +121,7 @@ module _ (Y : RowedPresentation) (rowed : IsRowed Y) (big : 1 < Y.base.prime) wh
         let nothing : state_word (identity Y Y.base.rank) ≡ [] = ap letters (spelled-zeros 0 Y.base.rank) in
         subst (λ (w : List ℤ). Joined Y.base (letters c.word) w) (letters-spelled 0 e)
         (subst (λ (w : List ℤ). Joined Y.base (w ++ letters c.word) (state_word (push_word push (identity Y Y.base.rank) c.word))) nothing
-        (base-pushed c.word one (identity-state Y Y.base.rank (omega arith)) b))
+        (push_word-joined_base Y push meaning c.word one (identity-state Y Y.base.rank (omega arith)) b))
 
     pub ways-over_base : IsConsistent Y.base → (o : Overlap) → IsOverlap Y.base.rank o
         → SameUpToRow Y (push_configuration Y push (identity Y Y.base.rank) (left_way Y o)) (push_configuration Y push (identity Y Y.base.rank) (right_way Y o))

@@ -10,6 +10,7 @@ pub mod StepPlaces
 pub mod StepShapes
 pub mod PassShapes
 pub mod AnyRun
+pub mod LaterRuns
 pub mod OverlapsFrom
 pub mod OverlapsAct
 pub mod FlatLaws

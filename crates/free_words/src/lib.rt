@@ -2,8 +2,17 @@
 //! defined for it, or says how long that word is. Nothing cancels, but in `reduce_free`.
 #![tactic(auto)]
 
+pub mod operations;
+mod pieces;
+pub mod reduction;
 pub mod refusal;
+pub mod substitution;
+#[cfg(test)]
+mod tests;
 pub mod word;
 
+pub use operations::{commutator, conjugate, inverse, power, product};
+pub use reduction::reduce_free;
 pub use refusal::WordRefusal;
+pub use substitution::substitute;
 pub use word::Word;

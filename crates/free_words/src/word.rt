@@ -1,7 +1,7 @@
 //! Words as values.
 
 ghost use Rattle.std.specs.Prelude.{◌≡◌, ◌≤◌, ℤ, List, length, [], IfOk};
-ghost use Rattle.free_words.specs.Letters.{AreLetters};
+ghost use Rattle.free_words.specs.Letters.{AreLetters, IsWord};
 ghost use Rattle.free_words.specs.Gives.{Gives, GivesRoom};
 
 use crate::refusal::WordRefusal;
@@ -17,18 +17,19 @@ pub struct Word {
 }
 
 impl Model for Word {
-    ghost use Rattle.std.specs.Prelude.{ℤ, List, length, ◌≤◌};
-    ghost use Rattle.free_words.specs.Letters.{AreLetters};
+    ghost use Rattle.std.specs.Prelude.{ℤ, List};
+    ghost use Rattle.free_words.specs.Letters.{IsWord};
 
     ghost Value = { List ℤ };
 
     ghost view = { λ w. w.letters.items };
 
-    ghost invariant = { λ w. AreLetters w.letters.items × (length w.letters.items ≤ 65536) };
+    ghost invariant = { λ w. IsWord w.letters.items };
 }
 
 impl Word {
-    /// The word of these letters, of which none is 0 or `i32::MIN`.
+    /// The word of these letters, of which none is 0 or `i32::MIN`. More than 65,536 of them are refused as `TooLong` with
+    /// their number.
     pub fn of(alloc: Global, letters: &[i32]) -> Result<Word, WordRefusal>
         requires { AreLetters letters.now }
         ensures { Gives result letters.now }
@@ -58,8 +59,7 @@ impl Word {
 
     /// The word of these letters, without copying them.
     pub(crate) fn from_vec(letters: Vec<i32>) -> Word
-        requires letters { AreLetters letters.items }
-        requires limit { length letters.items ≤ 65536 }
+        requires { IsWord letters.items }
         ensures { result ≡ letters.items }
     {
         Word { letters }

@@ -1,3 +1,10 @@
+pub mod Syllable
+pub mod Relation
+pub mod Store
+pub mod Pcp
+pub mod Builder
+pub mod Definition
+pub mod Parts
 pub mod Rowed
 pub mod Collection
 pub mod Overlaps

@@ -1,5 +1,26 @@
-//! Power-commutator presentations with a row over tails for each relation, and collection in them. Its `specs/` say what
-//! a directed step, the plain rule and an overlap are; `laws` states what is proved of them.
+//! Power-commutator presentations and answers as values, and the theory of collection. A `Pcp` keeps that its relations
+//! are those of a presentation, each with a tail or none; a `PcpBuilder` makes one, relation by relation; an `Answer`
+//! keeps the conditions of an answer. Contracts see each of them as a record of lists, in which a word is the list of the
+//! exponents of its generators. The `specs/` also say what a directed step, the plain rule and an overlap are; `laws`
+//! states what is proved of them: where overlaps agree the presentation is consistent, and normal words form a group.
 #![tactic(auto)]
 
+pub mod answer;
+pub mod builder;
+mod copies;
+pub mod definition;
 pub mod laws;
+mod parts;
+pub mod pcp;
+pub mod relation;
+mod store;
+pub mod syllable;
+#[cfg(test)]
+mod tests;
+
+pub use answer::Answer;
+pub use builder::{PcpBuilder, PcpRefusal};
+pub use definition::Definition;
+pub use pcp::Pcp;
+pub use relation::Relation;
+pub use syllable::Syllable;

@@ -7,6 +7,9 @@ pub mod RangeLaws
 pub mod Groups
 pub mod GroupSolver
 pub mod GroupIdentities
+pub mod GroupLevels
+pub mod GroupCommute
+pub mod GroupMaps
 pub mod WordGroup
 pub mod TableLaws
 pub mod TableGroup
@@ -18,3 +21,11 @@ pub mod ClassOneAnswer
 pub mod ClassOneUniversal
 pub mod ClassOneLargest
 pub mod ClassOneVectors
+pub mod SeriesLaws
+pub mod TableSeries
+pub mod CarryLaws
+pub mod CentralWords
+pub mod PowerLaws
+pub mod GroupQuotients
+pub mod TableQuotients
+pub mod AlongLaws

@@ -2,6 +2,7 @@
 pub mod Tests
 pub mod Tables
 pub mod CycleOfFour
+pub mod SymmetricGroup
 pub mod Presentations
 pub mod SignedWords
 pub mod LPresentations
@@ -12,6 +13,13 @@ pub mod Answers
 pub mod KilledRelators
 pub mod OrderTwo
 pub mod LargestOfOrderTwo
+pub mod DihedralTable
+pub mod Rewriting
+pub mod ConsistentTests
+pub mod ConsistentPresentations
+pub mod ClassTests
+pub mod DihedralClasses
+pub mod LargestOfOrderEight
 pub mod OrderOfFreeGenerator
 pub mod WantOrders
 pub mod CanonicalTests

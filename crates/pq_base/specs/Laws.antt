@@ -1,10 +1,13 @@
 -- What is proved of the definitions alone. Each statement is the contract of a function of `laws`.
 -- From: the elementary theory of groups given by generators and relators.
-use Rattle.std.specs.Prelude.{◌≡◌, ◌↔◌, ℕ, ℤ, neg_ℤ, List, [], ◌∷◌, ◌++◌}
-use Rattle.pq_base.specs.SignedWord.{inv, sub, HasLetters}
-use Rattle.pq_base.specs.Table.{Table, IsGroup, AllBelow, value}
+use Rattle.std.specs.Prelude.{◌≡◌, ◌↔◌, ◌<◌, ◌≤◌, ℕ, suc, ℤ, neg_ℤ, List, [], ◌∷◌, ◌++◌}
+use Rattle.pq_base.specs.SignedWord.{inv, copies, comm, conj, sub, HasLetters}
+use Rattle.pq_base.specs.LPresentation.{AreWords}
+use Rattle.pq_base.specs.Table.{Table, IsGroup, AllBelow, InLevel, HasTableClass, value}
 use Rattle.pq_base.specs.Presentation.{Presentation, IsPresentation, IsRelatorOf}
 use Rattle.pq_base.specs.Joined.{IsTrivial, Move, Joined}
+use Rattle.pq_base.specs.Series.{InSeries, HasClass}
+use Rattle.pq_base.specs.Largest.{HasValue}
 
 -- joined words are an equivalence that concatenation and inverses keep, in which relators and cancelling pairs are empty
 pub record JoinedIsCongruence (P : Presentation) : Type 0 where
@@ -38,3 +41,38 @@ pub data ChainWithin (n : ℕ) (E : List ℤ → Type 0) : List ℤ → List ℤ
 abbrev pub JoinedWordsNeedNoOtherLetters : Type 0
 JoinedWordsNeedNoOtherLetters = (P : Presentation) → IsPresentation P → (u v : List ℤ) → HasLetters P.rank u → HasLetters P.rank v
     → Joined P u v ↔ ChainWithin P.rank (IsTrivial P) u v
+
+-- level k holds the empty word, and the products, inverses and conjugates of its words; the next level holds their
+-- commutators and powers and every word over the generators that is joined to one of its own, and lies in level k
+pub record LevelIsNormal (P : Presentation) (k : ℕ) : Type 0 where
+  pub empty : InSeries P k []
+  pub products : (u v : List ℤ) → InSeries P k u → InSeries P k v → InSeries P k (u ++ v)
+  pub inverses : (u : List ℤ) → InSeries P k u → InSeries P k (inv u)
+  pub conjugates : (u v : List ℤ) → InSeries P k u → HasLetters P.rank v → InSeries P k (conj u v)
+  pub commutators : (u v : List ℤ) → InSeries P k u → HasLetters P.rank v → InSeries P (suc k) (comm u v)
+  pub powers : (u : List ℤ) → InSeries P k u → InSeries P (suc k) (copies u P.prime)
+  pub falls : (u : List ℤ) → InSeries P (suc k) u → InSeries P k u
+  pub joined : (u v : List ℤ) → Joined P u v → HasLetters P.rank v → InSeries P (suc k) u → InSeries P (suc k) v
+
+abbrev pub LevelsAreNormal : Type 0
+LevelsAreNormal = (P : Presentation) (k : ℕ) → LevelIsNormal P k
+
+-- elements of a group table at which each relator has value 0 carry each level into the level of the same number
+abbrev pub ValuesCarryTheSeries : Type 0
+ValuesCarryTheSeries = (P : Presentation) (T : Table) (f : List ℕ) → IsGroup T → AllBelow T.size f
+    → ((r : List ℤ) → IsRelatorOf P r → value T f r ≡ 0) → (k : ℕ) (w : List ℤ) → InSeries P k w → InLevel T P.prime k (value T f w)
+
+-- a table whose elements are all such values has the class of the presentation
+abbrev pub GeneratedTablesHaveTheClass : Type 0
+GeneratedTablesHaveTheClass = (P : Presentation) (T : Table) (f : List ℕ) → IsGroup T → AllBelow T.size f
+    → ((r : List ℤ) → IsRelatorOf P r → value T f r ≡ 0) → ((x : ℕ) → x < T.size → HasValue T f P.rank x)
+    → (c : ℕ) → HasClass P c → HasTableClass T P.prime c
+
+-- images that carry the relators of P to words joined to the empty word in Q carry the levels likewise
+abbrev pub SubstitutionsCarryTheSeries : Type 0
+SubstitutionsCarryTheSeries = (P Q : Presentation) (f : List (List ℤ)) → P.prime ≡ Q.prime → AreWords Q.rank f
+    → ((r : List ℤ) → IsRelatorOf P r → Joined Q (sub r f) []) → (k : ℕ) (w : List ℤ) → InSeries P k w → InSeries Q k (sub w f)
+
+-- class at most c is class at most any greater number
+abbrev pub ClassesGrow : Type 0
+ClassesGrow = (P : Presentation) (c d : ℕ) → c ≤ d → HasClass P c → HasClass P d

@@ -1,6 +1,6 @@
 //! Laws of the definitions: each function does nothing, and its clause is a theorem.
 
-ghost use Rattle.pq_base.specs.Laws.{JoinedWordsAreACongruence, JoinedWordsHaveEqualValues, JoinedWordsNeedNoOtherLetters, SubstitutionsCarryJoinedWords};
+ghost use Rattle.pq_base.specs.Laws.{ClassesGrow, GeneratedTablesHaveTheClass, JoinedWordsAreACongruence, JoinedWordsHaveEqualValues, JoinedWordsNeedNoOtherLetters, LevelsAreNormal, SubstitutionsCarryJoinedWords, SubstitutionsCarryTheSeries, ValuesCarryTheSeries};
 
 /// Joined words are a congruence: an equivalence that concatenation and inversion respect, in which each relator and each
 /// cancelling pair is joined to the empty word. So the words of a presentation stand for the elements of a group.
@@ -28,4 +28,34 @@ pub fn joined_words_have_equal_values()
 #[tactic(auto, using(crate::proofs::RangeLaws::joined_words_need_no_other_letters))]
 pub fn joined_words_need_no_other_letters()
     ensures { JoinedWordsNeedNoOtherLetters }
+{}
+
+/// Each level of the lower exponent-p series of a presentation is a normal set of words: it holds products, inverses and
+/// conjugates of its words, and all of the next level.
+pub fn levels_are_normal()
+    ensures { LevelsAreNormal }
+{}
+
+/// A presentation of p-class at most c has p-class at most any greater number.
+pub fn classes_grow()
+    ensures { ClassesGrow }
+{}
+
+/// A homomorphism into a finite group carries the lower exponent-p series: where elements of a group table give each relator
+/// the value 0, the value of a word of a level lies in the level of the same number.
+#[tactic(auto, using(crate::proofs::CarryLaws::values_carry_the_series))]
+pub fn values_carry_the_series()
+    ensures { ValuesCarryTheSeries }
+{}
+
+/// A finite group that is an image of the presented group has p-class at most that of the presentation.
+#[tactic(auto, using(crate::proofs::CarryLaws::generated_tables_have_the_class))]
+pub fn generated_tables_have_the_class()
+    ensures { GeneratedTablesHaveTheClass }
+{}
+
+/// A substitution between presentations of one prime that kills the relators carries the lower exponent-p series.
+#[tactic(auto, using(crate::proofs::CarryLaws::substitutions_carry_the_series))]
+pub fn substitutions_carry_the_series()
+    ensures { SubstitutionsCarryTheSeries }
 {}

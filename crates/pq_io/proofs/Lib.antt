@@ -1,4 +1,3 @@
-pub mod FaultLemmas
 pub mod ReadingLemmas
 pub mod WritingLemmas
 mod Offers

@@ -1,16 +1,13 @@
 -- While a sink is offered bytes, what it gained and what is still to be offered are these bytes.
-use Rattle.std.proofs.Common.{◌≡◌, ◌+◌, ◌<◌, ◌≤◌, ℕ, List, [], ◌++◌, length, take, drop, Option, IsNone, refl, sym, ◌∙◌, ap, subst, arith, append_assoc, length-append, take-append-drop}
-use Rattle.std.proofs.lemmas.List.{append-nil, take_at}
+use Rattle.std.proofs.Common.{◌≡◌, ◌<◌, ℕ, List, ◌++◌, length, take, drop, Option, IsNone, refl, sym, ◌∙◌, ap, subst, arith, append_assoc, length-append, take-append-drop}
+use Rattle.std.proofs.lemmas.List.{take_at}
 use Rattle.pq_io.specs.Writing.{Gains, GainsProperPrefix}
-use Rattle.pq_io.proofs.WritingLemmas.{Gains-nil, Gains-append}
+use Rattle.pq_io.proofs.WritingLemmas.{Gains-append}
 
 pub record Offered (old now : Option (List ℕ)) (bytes rest : List ℕ) : Type 0 where
   pub sent : List ℕ
   pub split : bytes ≡ sent ++ rest
   pub gained : Gains old now sent
-
-pub offered_none : (a : Option (List ℕ)) (bytes : List ℕ) → Offered a a bytes bytes
-offered_none a bytes = record { sent = []; split = refl; gained = Gains-nil a }
 
 pub offered_more : (a b c : Option (List ℕ)) (bytes rest : List ℕ) (n : ℕ) → Offered a b bytes rest → Gains b c (take n rest) → (IsNone b → IsNone c) → Offered a c bytes (drop n rest)
 offered_more a b c bytes rest n offered gains silent = record {
@@ -18,11 +15,6 @@ offered_more a b c bytes rest n offered gains silent = record {
   split = offered.split ∙ ap (λ (l : List ℕ). offered.sent ++ l) (sym (take-append-drop n rest)) ∙ sym (append_assoc offered.sent (take n rest) (drop n rest));
   gained = Gains-append a b c offered.sent (take n rest) offered.gained gains silent;
 }
-
-pub offered_all : (a b : Option (List ℕ)) (bytes rest : List ℕ) → Offered a b bytes rest → rest ≡ [] → Gains a b bytes
-offered_all a b bytes rest offered none =
-    let all : bytes ≡ offered.sent = offered.split ∙ ap (λ (l : List ℕ). offered.sent ++ l) none ∙ append-nil offered.sent in
-    subst (λ (l : List ℕ). Gains a b l) (sym all) offered.gained
 
 pub offered_part : (a b c : Option (List ℕ)) (bytes rest : List ℕ) → Offered a b bytes rest → 0 < length rest → c ≡ b → GainsProperPrefix a c bytes
 offered_part a b c bytes rest offered some same =

@@ -1,23 +1,8 @@
--- What a run of reads says of a source that told its bytes at the start.
-use Rattle.std.proofs.Common.{◌≡◌, ◌<◌, ◌≤◌, ℕ, List, [], ◌++◌, length, drop, Option, None, Some, IfSome, refl, sym, ◌∙◌, ap, arith, length-append}
-use Rattle.std.proofs.lemmas.List.{append-nil, drop_at}
-use Rattle.std.specs.Io.KnownBytes.{Consumes, IsAtEnd}
+-- What is left of a source, after reads, is what it told without what was read.
+use Rattle.std.proofs.Common.{◌≡◌, ◌≤◌, ℕ, List, [], ◌++◌, length, drop, Option, None, Some, IfSome, refl, sym, ◌∙◌, ap}
+use Rattle.std.proofs.lemmas.List.{drop_at}
+use Rattle.std.specs.Io.KnownBytes.{Consumes}
 
--- a source that is at its end has given all
-pub Consumes-whole : (a b c : Option (List ℕ)) (bytes : List ℕ) → Consumes a b bytes → IsAtEnd b → Consumes b c [] → IfSome a (λ told. (bytes ≡ told) × (c ≡ Some []))
-Consumes-whole None b c bytes read end same = tt
-Consumes-whole (Some told) None c bytes read end same = absurd read
-Consumes-whole (Some told) (Some rest) None bytes read end same = absurd same
-Consumes-whole (Some told) (Some rest) (Some last) bytes read end same =
-    (sym (read ∙ ap (λ (l : List ℕ). bytes ++ l) end ∙ append-nil bytes), ap (λ (l : List ℕ). Some l) (sym same ∙ end))
-
--- what was read is no longer than what was told
-pub Consumes-long : (a b : Option (List ℕ)) (bytes : List ℕ) (n : ℕ) → Consumes a b bytes → n < length bytes → IfSome a (λ told. n < length told)
-Consumes-long None b bytes n read long = tt
-Consumes-long (Some told) None bytes n read long = absurd read
-Consumes-long (Some told) (Some rest) bytes n read long = omega (arith, length-append bytes rest, ap length read)
-
--- what is left is what was told without what was read
 pub Consumes-drop : (a b : Option (List ℕ)) (bytes : List ℕ) (n : ℕ) → Consumes a b bytes → length bytes ≤ n → IfSome a (λ told. (k : ℕ) × (k ≤ n) × (b ≡ Some (drop k told)))
 Consumes-drop None b bytes n read few = tt
 Consumes-drop (Some told) None bytes n read few = absurd read

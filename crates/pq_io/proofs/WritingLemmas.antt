@@ -1,11 +1,6 @@
 -- Gains add up, as long as a sink that has stopped telling never tells again.
-use Rattle.std.proofs.Common.{◌≡◌, ℕ, List, [], ◌++◌, Option, None, Some, IsNone, refl, sym, ◌∙◌, ap, append_assoc}
-use Rattle.std.proofs.lemmas.List.{append-nil}
+use Rattle.std.proofs.Common.{ℕ, List, ◌++◌, Option, None, Some, IsNone, refl, ◌∙◌, ap, append_assoc}
 use Rattle.pq_io.specs.Writing.{Gains}
-
-pub Gains-nil : (a : Option (List ℕ)) → Gains a a []
-Gains-nil None = tt
-Gains-nil (Some old) = sym (append-nil old)
 
 pub Gains-append : (a b c : Option (List ℕ)) (xs ys : List ℕ) → Gains a b xs → Gains b c ys → (IsNone b → IsNone c) → Gains a c (xs ++ ys)
 Gains-append None b c xs ys first second silent = tt

@@ -1,10 +1,18 @@
--- How often the forms over the standard library's readers and writers have failed.
+-- The forms over the standard library's readers and writers, as contracts see them.
 use Rattle.std.specs.Prelude.{ℕ}
 use Rattle.pq_io.specs.declared.standard.StdSource.{StdSource}
 use Rattle.pq_io.specs.declared.standard.StdSink.{StdSink}
 
+abbrev pub reader_of : {R : Type 0} → StdSource R → R
+reader_of s = s.reader
+
+-- how often it has failed
 abbrev pub source_faults : {R : Type 0} → StdSource R → ℕ
 source_faults s = s.faults
 
+abbrev pub writer_of : {W : Type 0} → StdSink W → W
+writer_of s = s.writer
+
+-- how often it has failed
 abbrev pub sink_faults : {W : Type 0} → StdSink W → ℕ
 sink_faults s = s.faults

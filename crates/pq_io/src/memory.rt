@@ -56,10 +56,10 @@ impl MemorySource {
         }) }
     {
         Ok(MemorySource {
-            bytes: bytes.to_vec(alloc).map_err(|_| NoMemory)?,
+            bytes: bytes.to_vec(alloc)?,
             at: 0,
             step,
-            fails: fails.to_vec(alloc).map_err(|_| NoMemory)?,
+            fails: fails.to_vec(alloc)?,
             calls: 0,
             faults: 0,
         })
@@ -145,10 +145,10 @@ impl MemorySink {
         }) }
     {
         Ok(MemorySink {
-            bytes: Vec::with_capacity(alloc, room).map_err(|_| NoMemory)?,
+            bytes: Vec::with_capacity(alloc, room)?,
             room,
             step,
-            fails: fails.to_vec(alloc).map_err(|_| NoMemory)?,
+            fails: fails.to_vec(alloc)?,
             calls: 0,
             faults: 0,
         })

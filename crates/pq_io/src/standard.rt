@@ -2,6 +2,7 @@
 //! the system gives and takes, no clause says.
 
 ghost use Rattle.std.specs.Prelude.{◌≡◌, ◌<◌, ◌≤◌, length, None, IfOk, OnOk, OnErr};
+ghost use Rattle.std.specs.Io.KnownBytes.{ReadConsumes, WriteAppends};
 ghost use Rattle.pq_io.specs.Faults.{one_more};
 
 use crate::{Failed, Sink, Source};
@@ -15,18 +16,19 @@ pub struct StdSource<R: Read> {
 }
 
 impl<R: Read> StdSource<R> {
-    ghost use Rattle.pq_io.specs.Standard.{source_faults};
+    ghost use Rattle.pq_io.specs.Standard.{reader_of, source_faults};
 
-    /// A source over this reader, which has failed never. Takes no memory.
+    /// A source over this reader, which has never failed. Takes no memory.
     pub fn of(reader: R) -> StdSource<R>
-        ensures { source_faults result ≡ 0 }
+        ensures reader { reader_of result ≡ reader }
+        ensures faults { source_faults result ≡ 0 }
     {
         StdSource { reader, faults: 0 }
     }
 }
 
 impl<R: Read> Source for StdSource<R> {
-    ghost use Rattle.pq_io.specs.Standard.{source_faults};
+    ghost use Rattle.pq_io.specs.Standard.{reader_of, source_faults};
 
     ghost left = { λ _. None };
 
@@ -34,6 +36,8 @@ impl<R: Read> Source for StdSource<R> {
 
     fn read(&mut self, buf: &mut [u8]) -> Result<usize, Failed>
         ensures bound { IfOk result (λ n. n ≤ length buf.new) }
+        ensures bytes { ReadConsumes (R.remaining (reader_of self.old)) (R.remaining (reader_of self.new)) result buf.new }
+        ensures count { source_faults self.old ≤ source_faults self.new }
         ensures ok { OnOk result (source_faults self.new ≡ source_faults self.old) }
         ensures err { OnErr result (source_faults self.new ≡ one_more (source_faults self.old)) }
     {
@@ -56,18 +60,19 @@ pub struct StdSink<W: Write> {
 }
 
 impl<W: Write> StdSink<W> {
-    ghost use Rattle.pq_io.specs.Standard.{sink_faults};
+    ghost use Rattle.pq_io.specs.Standard.{writer_of, sink_faults};
 
-    /// A sink over this writer, which has failed never. Takes no memory.
+    /// A sink over this writer, which has never failed. Takes no memory.
     pub fn of(writer: W) -> StdSink<W>
-        ensures { sink_faults result ≡ 0 }
+        ensures writer { writer_of result ≡ writer }
+        ensures faults { sink_faults result ≡ 0 }
     {
         StdSink { writer, faults: 0 }
     }
 }
 
 impl<W: Write> Sink for StdSink<W> {
-    ghost use Rattle.pq_io.specs.Standard.{sink_faults};
+    ghost use Rattle.pq_io.specs.Standard.{writer_of, sink_faults};
 
     ghost taken = { λ _. None };
 
@@ -75,7 +80,9 @@ impl<W: Write> Sink for StdSink<W> {
 
     fn write(&mut self, piece: &[u8]) -> Result<usize, Failed>
         ensures bound { IfOk result (λ n. n ≤ length piece.now) }
+        ensures bytes { WriteAppends (W.contents (writer_of self.old)) (W.contents (writer_of self.new)) result piece.now }
         ensures progress { IfOk result (λ n. 0 < length piece.now → 0 < n) }
+        ensures count { sink_faults self.old ≤ sink_faults self.new }
         ensures ok { OnOk result (sink_faults self.new ≡ sink_faults self.old) }
         ensures err { OnErr result (sink_faults self.new ≡ one_more (sink_faults self.old)) }
     {

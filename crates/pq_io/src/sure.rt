@@ -30,7 +30,7 @@ impl SureSource {
     pub fn new(alloc: Global, bytes: &[u8]) -> Result<SureSource, NoMemory>
         ensures { IfOk result (λ source. source ≡ bytes.now) }
     {
-        let bytes = bytes.to_vec(alloc).map_err(|_| NoMemory)?;
+        let bytes = bytes.to_vec(alloc)?;
         Ok(SureSource { bytes, at: 0 })
     }
 }
@@ -76,7 +76,7 @@ impl SureSink {
     pub fn new(alloc: Global, room: usize) -> Result<SureSink, NoMemory>
         ensures { IfOk result (λ sink. sink ≡ record { kept = []; room = room; over = false }) }
     {
-        let bytes = Vec::with_capacity(alloc, room).map_err(|_| NoMemory)?;
+        let bytes = Vec::with_capacity(alloc, room)?;
         Ok(SureSink {
             bytes,
             room,

@@ -6,15 +6,19 @@ ghost use Rattle.pq_io.specs.Writing.{Gains, GainsProperPrefix};
 
 use crate::{Failed, Sink, Source};
 use std::alloc::{AllocError, Global};
+use thiserror::Error;
 
 /// Why an input was not read to its end.
-#[derive(Clone, Copy, Debug, PartialEq, Eq)]
+#[derive(Clone, Copy, Debug, PartialEq, Eq, Error)]
 pub enum InputRefusal {
     /// A read failed.
+    #[error("a read failed")]
     Failed,
     /// There are more bytes than the limit.
+    #[error("too many bytes")]
     TooLong,
     /// Nothing could be allocated.
+    #[error("no memory")]
     NoMemory,
 }
 

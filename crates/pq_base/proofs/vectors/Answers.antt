@@ -8,6 +8,7 @@ use Rattle.pq_base.proofs.vectors.LPresentations.{x_and_y, are_x_and_y_distinct}
 use Rattle.pq_base.proofs.vectors.LargestQuotients.{x_name, trivial_answer}
 use Rattle.pq_base.proofs.vectors.Presentations.{order_two, order_two_is_presentation, dihedral_of_order_eight, dihedral_of_order_eight_is_presentation, dihedral_of_order_sixteen, dihedral_of_order_sixteen_is_presentation, quaternion, quaternion_is_presentation, cycle_of_nine, cycle_of_nine_is_presentation}
 
+-- a1 from the image of x
 abbrev pub answer_of_order_two : Answer
 answer_of_order_two = record {
   presentation = order_two;
@@ -37,6 +38,7 @@ answer_of_order_sixteen = record {
   images = (1 ∷ 0 ∷ 0 ∷ 0 ∷ []) ∷ (0 ∷ 1 ∷ 0 ∷ 0 ∷ []) ∷ [];
 }
 
+-- a3 from [a2,a1]
 abbrev pub answer_of_quaternion : Answer
 answer_of_quaternion = record {
   presentation = quaternion;
@@ -56,6 +58,7 @@ answer_of_cycle = record {
   images = (1 ∷ 0 ∷ []) ∷ (2 ∷ 2 ∷ []) ∷ [];
 }
 
+-- one generator of weight 1, the image of x
 pub order_two_is_answer : IsAnswer answer_of_order_two
 order_two_is_answer = record {
   presentation = order_two_is_presentation;
@@ -73,6 +76,7 @@ order_two_is_answer = record {
   defined zero h = (refl, lit< tt, refl)
   defined (suc k) h = absurd (omega (arith, h))
 
+-- two images and their commutator
 pub order_eight_is_answer : IsAnswer answer_of_order_eight
 order_eight_is_answer = record {
   presentation = dihedral_of_order_eight_is_presentation;
@@ -95,6 +99,7 @@ order_eight_is_answer = record {
   defined (suc (suc zero)) h = (lit< tt, lit< tt, lit< tt, refl)
   defined (suc (suc (suc k))) h = absurd (omega (arith, h))
 
+-- two images and two commutators
 pub order_sixteen_is_answer : IsAnswer answer_of_order_sixteen
 order_sixteen_is_answer = record {
   presentation = dihedral_of_order_sixteen_is_presentation;
@@ -118,6 +123,7 @@ order_sixteen_is_answer = record {
   defined (suc (suc (suc zero))) h = (lit< tt, lit< tt, lit< tt, refl)
   defined (suc (suc (suc (suc k)))) h = absurd (omega (arith, h))
 
+-- two images and their commutator, which both squares equal
 pub quaternion_is_answer : IsAnswer answer_of_quaternion
 quaternion_is_answer = record {
   presentation = quaternion_is_presentation;
@@ -140,6 +146,7 @@ quaternion_is_answer = record {
   defined (suc (suc zero)) h = (lit< tt, lit< tt, lit< tt, refl)
   defined (suc (suc (suc k))) h = absurd (omega (arith, h))
 
+-- an image, its cube, and an image that defines nothing
 pub cycle_is_answer : IsAnswer answer_of_cycle
 cycle_is_answer = record {
   presentation = cycle_of_nine_is_presentation;
@@ -195,21 +202,27 @@ large_image_is_no_answer h = omega (arith, h.images.0.below.0)
 pub repeated_name_is_no_answer : IsAnswer (record answer_of_order_eight { names = x_name ∷ x_name ∷ [] }) → ⊥
 repeated_name_is_no_answer h = h.distinct 0 1 (lit< tt) (lit< tt) refl
 
+-- the last weight
 pub class_of_order_eight : class_of answer_of_order_eight ≡ 2
 class_of_order_eight = refl
 
+-- the last of four weights
 pub class_of_order_sixteen : class_of answer_of_order_sixteen ≡ 3
 class_of_order_sixteen = refl
 
+-- no weight gives class 0
 pub class_of_trivial : class_of trivial_answer ≡ 0
 class_of_trivial = refl
 
+-- four generators
 pub rank_of_order_sixteen : rank_of answer_of_order_sixteen ≡ 4
 rank_of_order_sixteen = refl
 
+-- the images as words
 pub images_of_cycle : image_words answer_of_cycle ≡ (pos 1 ∷ []) ∷ (pos 1 ∷ pos 1 ∷ pos 2 ∷ pos 2 ∷ []) ∷ []
 images_of_cycle = refl
 
+-- a2 spells y
 pub second_letter_is_spelled : spell answer_of_order_eight 1 ≡ pos 2 ∷ []
 second_letter_is_spelled = refl
 

@@ -1,13 +1,14 @@
 -- Canonical answers: those of small groups, and the dihedral answer of order sixteen with its last definition swapped.
-use Rattle.std.proofs.Common.{◌<◌, ℕ, zero, suc, List, [], ◌∷◌, refl, inl, inr, lit<, lit≤, arith}
+use Rattle.std.proofs.Common.{◌<◌, ℕ, zero, suc, List, [], ◌∷◌, refl, inl, inr, lit<, lit≤, arith, sym}
 use Rattle.pq_base.specs.Answer.{Answer, Definition, IsAnswer, HasDefinition, definition_at}
 use Rattle.pq_base.specs.Answer.Definition.{image, commutator, power}
-use Rattle.pq_base.specs.Canonical.{want_order, up_to_class, AreMet, IsCanonical}
-use Rattle.pq_base.proofs.vectors.Tests.{unequal}
+use Rattle.pq_base.specs.Canonical.{want_order, up_to_class, AreMet, ObeysWeights, IsCanonical}
+use Rattle.pq_base.proofs.vectors.Tests.{differ, unequal}
 use Rattle.pq_base.proofs.vectors.CanonicalTests.{tested_none, tested_weights, other-definition}
 use Rattle.pq_base.proofs.vectors.LargestQuotients.{trivial_answer}
 use Rattle.pq_base.proofs.vectors.Answers.{answer_of_order_eight, answer_of_order_sixteen, order_sixteen_is_answer, answer_of_quaternion, answer_of_cycle}
 
+-- an answer of class 0 has nothing to meet
 pub trivial_is_canonical : IsCanonical trivial_answer
 trivial_is_canonical = record {
   weights = tested_weights trivial_answer (record { commutators = refl; powers = refl });
@@ -170,6 +171,7 @@ first-entry : (rest : List Definition) → AreMet with_swapped_definition 2 0 (c
 first-entry rest (inl met) = other-definition (power 3) (commutator 3 1) refl met.0.defined
 first-entry rest (inr met) = unequal 1 0 refl (met.0.met_alone 0 (lit≤ tt))
 
+-- so the first of the equal entries has to define
 pub swapped_definition_is_not_canonical : IsCanonical with_swapped_definition → ⊥
 swapped_definition_is_not_canonical c =
     first-entry (commutator 3 2 ∷ power 3 ∷ power 1 ∷ power 2 ∷ []) (c.turns 2 (lit< tt))
@@ -178,3 +180,19 @@ swapped_definition_is_not_canonical c =
 pub light_commutator_is_not_canonical : IsCanonical (record answer_of_order_sixteen { weights = 1 ∷ 1 ∷ 1 ∷ 2 ∷ [] }) → ⊥
 light_commutator_is_not_canonical c =
     omega (arith, c.weights.commutators 1 0 0 (lit< tt) (lit< tt) (unequal 1 0 refl))
+
+-- weights 1, 1, 3 for the dihedral answer of order eight: at class 2 the commutator [a2,a1] is no qualifying relation
+abbrev pub with_skipped_weight : Answer
+with_skipped_weight = record answer_of_order_eight { weights = 1 ∷ 1 ∷ 3 ∷ [] }
+
+-- its right sides obey the weights
+pub skipped_weight_obeys_weights : ObeysWeights with_skipped_weight
+skipped_weight_obeys_weights = tested_weights with_skipped_weight (record { commutators = refl; powers = refl })
+
+early-entry : (rest : List Definition) → AreMet with_skipped_weight 2 0 (commutator 2 1 ∷ rest) → ⊥
+early-entry rest (inl met) = differ (sym met.0.allowed)
+early-entry rest (inr met) = met.0.none_defined 0 (lit< tt) refl
+
+-- so a generator of weight 3 has to come from a qualifying relation
+pub skipped_weight_is_not_canonical : IsCanonical with_skipped_weight → ⊥
+skipped_weight_is_not_canonical c = early-entry (power 1 ∷ power 2 ∷ []) (c.turns 2 (lit< tt))

@@ -4,13 +4,15 @@ use Rattle.pq_base.specs.Presentation.{power_side, commutator_side}
 use Rattle.pq_base.specs.Answer.{Answer, Definition, weight_at, definition_at}
 use Rattle.pq_base.specs.Answer.Definition.{image, commutator, power}
 use Rattle.pq_base.specs.Canonical.{same_definition, new_part, new_count, rank_up_to, DefinesNone, ObeysWeights}
-use Rattle.pq_base.proofs.vectors.Tests.{differ, both, passes_below, at-below}
+use Rattle.pq_base.proofs.vectors.Tests.{not-true, differ, both, passes_below, at-below}
 
+-- a definition passes as itself
 pub same-definition_refl : (d : Definition) → same_definition d d ≡ true
 same-definition_refl (image i) = eq-eqb i i refl
 same-definition_refl (commutator j i) = ap (λ (b : Bool). b && eqb i i) (eq-eqb j j refl) ∙ eq-eqb i i refl
 same-definition_refl (power i) = eq-eqb i i refl
 
+-- definitions that the test tells apart are different
 pub other-definition : (d e : Definition) → same_definition d e ≡ false → d ≢ e
 other-definition d e h same = differ (sym (same-definition_refl d) ∙ (ap (same_definition d) same ∙ h))
 
@@ -20,6 +22,7 @@ are_zero_from n [] = true
 are_zero_from zero (x ∷ xs) = eqb x 0 && are_zero_from zero xs
 are_zero_from (suc n) (x ∷ xs) = are_zero_from n xs
 
+-- so they are, by the test
 pub zero-from : (n : ℕ) (xs : List ℕ) → are_zero_from n xs ≡ true → (g : ℕ) → n ≤ g → get_or xs g 0 ≡ 0
 zero-from n [] h g l = refl
 zero-from zero (x ∷ xs) h zero l = eqb-true x 0 (both (eqb x 0) (are_zero_from zero xs) h).0
@@ -32,10 +35,7 @@ pub record PassesNone (A : Answer) (k met : ℕ) (d : Definition) : Type 0 where
   pub none_defined : passes_below (new_count A k) (λ g. not (same_definition (definition_at A (rank_up_to A k + g)) d)) ≡ true
   pub met_alone : are_zero_from met (new_part A k d) ≡ true
 
-not-true : (b : Bool) → not b ≡ true → b ≡ false
-not-true true h = sym h
-not-true false h = refl
-
+-- an entry that passes defines no new generator
 pub tested_none : (A : Answer) (k met : ℕ) (d : Definition) → PassesNone A k met d → DefinesNone A k met d
 tested_none A k met d h = record {
   none_defined = λ g hg. other-definition (definition_at A (rank_up_to A k + g)) d
@@ -53,6 +53,7 @@ or-second : (a b : Bool) → (a || b) ≡ true → a ≢ true → b ≡ true
 or-second true b h ne = absurd (ne refl)
 or-second false b h ne = h
 
+-- so they have, by the test
 pub heavy : (A : Answer) (least n : ℕ) (es : List ℕ) → is_heavy A least n es ≡ true
     → (m k : ℕ) → n + m ≡ k → get_or es m 0 ≢ 0 → least ≤ weight_at A k
 heavy A least n [] h m k e ne = absurd (ne refl)
@@ -70,6 +71,7 @@ pub record PassesWeights (A : Answer) : Type 0 where
       is_heavy A (weight_at A j + weight_at A i) (suc j) (commutator_side A.presentation j i))) ≡ true
   pub powers : passes_below A.presentation.rank (λ i. is_heavy A (suc (weight_at A i)) (suc i) (power_side A.presentation i)) ≡ true
 
+-- an answer that passes obeys the weights
 pub tested_weights : (A : Answer) → PassesWeights A → ObeysWeights A
 tested_weights A h = record {
   commutators = λ j i m hj hi ne. heavy A (weight_at A j + weight_at A i) (suc j) (commutator_side A.presentation j i)

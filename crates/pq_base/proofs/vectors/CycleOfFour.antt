@@ -22,6 +22,7 @@ even-square (suc (suc zero)) h = inl refl
 even-square (suc (suc (suc zero))) h = inr refl
 even-square (suc (suc (suc (suc u)))) h = absurd (omega (arith, h))
 
+-- level 1 has 0 and 2 alone
 pub level_one_is_even : (x : ℕ) → InLevel cycle_of_four 2 1 x → (x ≡ 0) ⊎ (x ≡ 2)
 level_one_is_even x no_element = inl refl
 level_one_is_even x (times_commutator u v y hu hv hy) =
@@ -36,6 +37,7 @@ even-square-neutral : (u : ℕ) → (u ≡ 0) ⊎ (u ≡ 2) → power cycle_of_f
 even-square-neutral u (inl e) = ap (λ (m : ℕ). power cycle_of_four m 2) e
 even-square-neutral u (inr e) = ap (λ (m : ℕ). power cycle_of_four m 2) e
 
+-- level 2 has 0 alone
 pub cycle_of_four_has_class_two : HasTableClass cycle_of_four 2 2
 cycle_of_four_has_class_two x no_element = refl
 cycle_of_four_has_class_two x (times_commutator u v y hu hv hy) =

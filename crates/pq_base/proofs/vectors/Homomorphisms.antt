@@ -24,6 +24,7 @@ one_to_two = record { count = refl; elements = (lit< tt, (lit< tt, tt)); product
   products (suc zero) (suc (suc b)) ha hb = absurd (omega (arith, hb))
   products (suc (suc a)) b ha hb = absurd (omega (arith, ha))
 
+-- it carries 1 to 2
 pub one_to_two_carries : Carries two_elements (1 ∷ []) cycle_of_four (2 ∷ [])
 one_to_two_carries = record { map = 0 ∷ 2 ∷ []; homomorphism = one_to_two; carries = carries } where
   carries : (i : ℕ) → i < 1 → get_or {A = ℕ} (0 ∷ 2 ∷ []) (get_or (1 ∷ []) i 0) 0 ≡ get_or (2 ∷ []) i 0
@@ -34,6 +35,7 @@ one_to_two_carries = record { map = 0 ∷ 2 ∷ []; homomorphism = one_to_two; c
 pub one_to_one_is_no_homomorphism : IsHomomorphism two_elements cycle_of_four (0 ∷ 1 ∷ []) → ⊥
 one_to_one_is_no_homomorphism h = unequal 0 2 refl (h.products 1 1 (lit< tt) (lit< tt))
 
+-- an element of order four is no image of one of order two
 pub nothing_carries_one_to_one : Carries two_elements (1 ∷ []) cycle_of_four (1 ∷ []) → ⊥
 nothing_carries_one_to_one c =
     let one = c.carries 0 (lit< tt) in
@@ -64,6 +66,7 @@ zero_obeys = record { count = refl; elements = (lit< tt, tt); kills = kills } wh
   kills r (fixed_relator (suc i) h) = absurd (omega (arith, h))
   kills r (iterated_relator s i hs h) = absurd (omega (arith, h))
 
+-- the empty word has the value 0
 pub zero_generates : (x : ℕ) → x < 1 → HasValue one_element (0 ∷ []) 1 x
 zero_generates zero h = record { word = []; letters = tt; is = refl }
 zero_generates (suc x) h = absurd (omega (arith, h))
@@ -76,6 +79,7 @@ zero-is-homomorphism U g = record { count = refl; elements = (g.nonempty, tt); p
   products zero (suc b) ha hb = absurd (omega (arith, hb))
   products (suc a) b ha hb = absurd (omega (arith, ha))
 
+-- 0 to 0 is a homomorphism into each group, and carries the generator
 pub zero_carries : (U : Table) (g : List ℕ) → IsGroup U → Obeys U g killed_generator → Carries one_element (0 ∷ []) U g
 zero_carries U g group o = record { map = 0 ∷ []; homomorphism = zero-is-homomorphism U group; carries = carries } where
   carries : (i : ℕ) → i < 1 → get_or {A = ℕ} (0 ∷ []) (get_or (0 ∷ []) i 0) 0 ≡ get_or g i 0

@@ -23,6 +23,7 @@ order_eight_kills r (fixed_relator (suc zero) h) =
 order_eight_kills r (fixed_relator (suc (suc i)) h) = absurd (omega (arith, h))
 order_eight_kills r (iterated_relator s i hs h) = absurd (omega (arith, h))
 
+-- a1 and a2 are images, and a3 is their commutator
 pub order_eight_is_generated : IsGenerated answer_of_order_eight
 order_eight_is_generated zero h = done
 order_eight_is_generated (suc zero) h = done

@@ -1,11 +1,11 @@
 -- L-presentations: words along endomorphisms, relators and words that are none, and the two parts.
-use Rattle.std.proofs.Common.{◌≡◌, ◌≢◌, ◌⊎◌, ℕ, zero, suc, ℤ, pos, negsuc, List, [], ◌∷◌, get_or, refl, ap, inl, inr, lit<, arith}
+use Rattle.std.proofs.Common.{◌≡◌, ◌⊎◌, ℕ, zero, suc, ℤ, pos, negsuc, List, [], ◌∷◌, refl, ap, inl, inr, lit<, arith}
 use Rattle.pq_base.specs.SignedWord.{sub}
 use Rattle.pq_base.specs.LPresentation.{LPresentation, along, AreEndoNumbers, IsRelator, part, Obeys, AreDistinct, IsLPresentation}
 use Rattle.pq_base.specs.LPresentation.IsRelator.{fixed_relator, iterated_relator}
 use Rattle.pq_base.specs.LPresentation.Part.{whole, iterated_part}
 use Rattle.pq_base.specs.Table.{value}
-use Rattle.pq_base.proofs.vectors.Tests.{unequal}
+use Rattle.pq_base.proofs.vectors.Tests.{unequal, tested_distinct}
 use Rattle.pq_base.proofs.vectors.Tables.{two_elements, cycle_of_four}
 
 -- the names x and y
@@ -48,6 +48,7 @@ lamplighter = record {
 pub along_once : along lamplighter.endos (1 ∷ []) (pos 3 ∷ []) ≡ pos 3 ∷ pos 2 ∷ []
 along_once = refl
 
+-- and twice u t t
 pub along_twice : along lamplighter.endos (1 ∷ 1 ∷ []) (pos 3 ∷ []) ≡ pos 3 ∷ pos 2 ∷ pos 2 ∷ []
 along_twice = refl
 
@@ -63,12 +64,15 @@ doubled_then_swapped = refl
 pub swapped_then_doubled : along (swap ∷ doubling ∷ []) (2 ∷ 1 ∷ []) (pos 1 ∷ []) ≡ pos 2 ∷ []
 swapped_then_doubled = refl
 
+-- along no endomorphism a word stays
 pub along_nothing : along lamplighter.endos [] (pos 3 ∷ []) ≡ pos 3 ∷ []
 along_nothing = refl
 
+-- u t⁻¹
 pub fixed_is_relator : IsRelator lamplighter (pos 3 ∷ negsuc 1 ∷ [])
 fixed_is_relator = fixed_relator 0 (lit< tt)
 
+-- a^2, along nothing
 pub iterated_is_relator : IsRelator lamplighter (pos 1 ∷ pos 1 ∷ [])
 iterated_is_relator = iterated_relator [] 0 tt (lit< tt)
 
@@ -77,6 +81,7 @@ pub iterated_along_is_relator
     : IsRelator lamplighter (negsuc 0 ∷ negsuc 1 ∷ negsuc 2 ∷ negsuc 0 ∷ pos 3 ∷ pos 2 ∷ pos 1 ∷ negsuc 1 ∷ negsuc 2 ∷ pos 1 ∷ pos 3 ∷ pos 2 ∷ [])
 iterated_along_is_relator = iterated_relator (1 ∷ []) 1 (lit< tt, tt) (lit< tt)
 
+-- y^2, along the swap
 pub swapped_square_is_relator : IsRelator swapped_iterated (pos 2 ∷ pos 2 ∷ [])
 swapped_square_is_relator = iterated_relator (1 ∷ []) 0 (lit< tt, tt) (lit< tt)
 
@@ -90,34 +95,35 @@ abbrev first_letter : List ℤ → ℕ
 first_letter (pos n ∷ w) = n
 first_letter _ = 0
 
+-- so y^2 is none
 pub fixed_along_is_no_relator : IsRelator swapped_fixed (pos 2 ∷ pos 2 ∷ []) → ⊥
 fixed_along_is_no_relator h = unequal 2 1 refl (ap first_letter (only_relator (pos 2 ∷ pos 2 ∷ []) h))
 
+-- 2 is no number of one endomorphism
 pub no_numbers_of_endos : AreEndoNumbers 1 (1 ∷ 2 ∷ []) → ⊥
 no_numbers_of_endos h = omega (arith, h.1.0)
 
+-- numbers count from 1
 pub zero_is_no_number : (n : ℕ) → AreEndoNumbers n (0 ∷ []) → ⊥
 zero_is_no_number n h = h
 
+-- the whole is all of it
 pub whole_part : part lamplighter whole ≡ lamplighter
 whole_part = refl
 
+-- the iterated part has no fixed relators
 pub iterated_part_of_lamplighter : (part lamplighter iterated_part).fixed ≡ []
 iterated_part_of_lamplighter = refl
 
+-- and all iterated ones
 pub iterated_part_keeps_the_rest : (part lamplighter iterated_part).iterated ≡ lamplighter.iterated
 iterated_part_keeps_the_rest = refl
 
--- two names that differ
-pub are_two_distinct : (a b : List ℕ) → a ≢ b → AreDistinct (a ∷ b ∷ [])
-are_two_distinct a b ne zero zero less below = absurd (omega (arith, less))
-are_two_distinct a b ne zero (suc zero) less below = ne
-are_two_distinct a b ne zero (suc (suc j)) less below = absurd (omega (arith, below))
-are_two_distinct a b ne (suc i) j less below = absurd (omega (arith, less, below))
-
+-- the two names differ
 pub are_x_and_y_distinct : AreDistinct x_and_y
-are_x_and_y_distinct = are_two_distinct (120 ∷ []) (121 ∷ []) (λ e. unequal 120 121 refl (ap (λ (l : List ℕ). get_or l 0 0) e))
+are_x_and_y_distinct = tested_distinct x_and_y refl
 
+-- two names and two words over them
 pub dihedral_is_l_presentation : IsLPresentation dihedral
 dihedral_is_l_presentation = record {
   distinct = are_x_and_y_distinct;
@@ -126,12 +132,25 @@ dihedral_is_l_presentation = record {
   endo_words = tt;
 }
 
+-- two names, a word and two images over them
 pub swapped_is_l_presentation : IsLPresentation swapped_iterated
 swapped_is_l_presentation = record {
   distinct = are_x_and_y_distinct;
   fixed_words = tt;
   iterated_words = ((lit< tt, (lit< tt, tt)), tt);
   endo_words = (refl, ((lit< tt, tt), ((lit< tt, tt), tt)), tt);
+}
+
+-- three names, three words and three images over them
+pub lamplighter_is_l_presentation : IsLPresentation lamplighter
+lamplighter_is_l_presentation = record {
+  distinct = tested_distinct lamplighter.names refl;
+  fixed_words = ((lit< tt, (lit< tt, tt)), tt);
+  iterated_words = (
+    (lit< tt, (lit< tt, tt)),
+    ((lit< tt, (lit< tt, (lit< tt, (lit< tt, (lit< tt, (lit< tt, (lit< tt, (lit< tt, tt)))))))), tt),
+  );
+  endo_words = (refl, ((lit< tt, tt), ((lit< tt, tt), ((lit< tt, (lit< tt, tt)), tt))), tt);
 }
 
 -- one name twice
@@ -166,6 +185,7 @@ ones_kill r (iterated_relator s zero hs h) = elim (square_along s hs) [
   | inr e ↦ ap (value two_elements (1 ∷ 1 ∷ [])) e
 ]
 
+-- so the map obeys
 pub ones_obey : Obeys two_elements (1 ∷ 1 ∷ []) swapped_iterated
 ones_obey = record { count = refl; elements = (lit< tt, (lit< tt, tt)); kills = ones_kill }
 
@@ -177,6 +197,7 @@ two_and_one_obey_fixed = record {
   kills = λ r h. ap (value cycle_of_four (2 ∷ 1 ∷ [])) (only_relator r h);
 }
 
+-- so it does not obey where x^2 is iterated
 pub two_and_one_obey_not_iterated : Obeys cycle_of_four (2 ∷ 1 ∷ []) swapped_iterated → ⊥
 two_and_one_obey_not_iterated o = unequal 2 0 refl (o.kills (pos 2 ∷ pos 2 ∷ []) swapped_square_is_relator)
 

@@ -7,17 +7,18 @@ use Rattle.pq_base.specs.Table.NextElement.{no_element, times_power}
 use Rattle.pq_base.specs.Presentation.{IsRelatorOf}
 use Rattle.pq_base.specs.Presentation.IsRelatorOf.{power_relator, commutator_relator}
 use Rattle.pq_base.specs.Joined.Chain.{done}
-use Rattle.pq_base.specs.Answer.{image_words}
-use Rattle.pq_base.specs.Largest.{IsGenerated, IsUniversal, IsLargest}
+use Rattle.pq_base.specs.Answer.{Answer, image_words}
+use Rattle.pq_base.specs.Largest.{IsGenerated, Factors, FactorsOnce, IsUniversal, IsLargest}
 use Rattle.pq_base.proofs.TableLaws.{get_or-below}
 use Rattle.pq_base.proofs.vectors.Tests.{unequal}
-use Rattle.pq_base.proofs.vectors.Tables.{cycle_of_four, cycle_of_four_is_group}
+use Rattle.pq_base.proofs.vectors.Tables.{two_elements, cycle_of_four, cycle_of_four_is_group}
 use Rattle.pq_base.proofs.vectors.CycleOfFour.{cycle_of_four_has_class_two}
 use Rattle.pq_base.proofs.vectors.Presentations.{order_two}
 use Rattle.pq_base.proofs.vectors.LargestQuotients.{killed_generator, free_generator, no-relator}
 use Rattle.pq_base.proofs.vectors.Answers.{answer_of_order_two, order_two_is_answer}
 use Rattle.pq_base.proofs.vectors.OrderTwo.{order_two_is_consistent, order_two_has_class_one, order_two_kills_not}
 
+-- a1 is the image of x
 pub order_two_is_generated : IsGenerated answer_of_order_two
 order_two_is_generated zero h = done
 order_two_is_generated (suc k) h = absurd (omega (arith, h))
@@ -44,6 +45,7 @@ images-kept : (T : Table) (f : List ℕ) → times T (get_or f 0 0) 0 ≡ get_or
 images-kept T f e zero h = e
 images-kept T f e (suc i) h = absurd (omega (arith, h))
 
+-- each element of a group of class 1 is an image of a1
 pub order_two_is_universal : IsUniversal free_generator 2 1 answer_of_order_two
 order_two_is_universal T f g c o =
     let below = get_or-below T.size f 0 g.nonempty o.elements in
@@ -61,6 +63,7 @@ order_two_is_universal T f g c o =
           ∙ sym (one-entry T f o.count);
     }
 
+-- the free group of rank 1 at class 1
 pub order_two_is_largest : IsLargest free_generator 2 1 answer_of_order_two
 order_two_is_largest = record {
   answer = order_two_is_answer;
@@ -74,12 +77,15 @@ order_two_is_largest = record {
   universal = order_two_is_universal;
 }
 
+-- where x is a relator it is not: x is not killed
 pub order_two_is_not_largest_of_killed : IsLargest killed_generator 2 1 answer_of_order_two → ⊥
 order_two_is_not_largest_of_killed h = order_two_kills_not h.kills
 
+-- at class 0 it is not: its class is 1
 pub order_two_is_not_largest_of_class_zero : IsLargest free_generator 2 0 answer_of_order_two → ⊥
 order_two_is_not_largest_of_class_zero h = omega (arith, h.class_limit)
 
+-- at the prime 3 it is not
 pub order_two_is_not_largest_at_three : IsLargest free_generator 3 1 answer_of_order_two → ⊥
 order_two_is_not_largest_at_three h = unequal 2 3 refl h.prime
 
@@ -96,3 +102,32 @@ order_two_is_not_universal_at_class_two u =
     let same : a ≡ 1 = sym (cycle_of_four_is_group.neutral_right a below) ∙ kept in
     let two = ap (λ (m : ℕ). times cycle_of_four m (times cycle_of_four a 0)) same ∙ ap (times cycle_of_four 1) kept in
     unequal 2 0 refl (sym two ∙ square)
+
+-- elements that do not keep the images
+pub neutral_does_not_factor : Factors two_elements (1 ∷ []) answer_of_order_two (0 ∷ []) → ⊥
+neutral_does_not_factor h = unequal 0 1 refl (h.images 0 (lit< tt))
+
+-- an element at which the relator has not value 0
+pub fourth_root_does_not_factor : Factors cycle_of_four (1 ∷ []) answer_of_order_two (1 ∷ []) → ⊥
+fourth_root_does_not_factor h = unequal 2 0 refl (h.relators (pos 1 ∷ pos 1 ∷ []) (power_relator 0 (lit< tt)))
+
+-- without images every element of order two serves, so that more than one list does
+abbrev pub without_images : Answer
+without_images = record answer_of_order_two { names = []; images = [] }
+
+-- 0 and 1 both do
+pub each_factors_without_images : (x : ℕ) → x < 2 → times two_elements x (times two_elements x 0) ≡ 0
+    → Factors two_elements [] without_images (x ∷ [])
+each_factors_without_images x below square = record {
+  count = refl;
+  elements = (below, tt);
+  relators = relators-killed two_elements (x ∷ []) square;
+  images = λ i h. absurd (omega (arith, h));
+}
+
+-- so no list is the only one
+pub without_images_is_not_once : FactorsOnce two_elements [] without_images → ⊥
+without_images_is_not_once h =
+    let zeroth = h.only (0 ∷ []) (each_factors_without_images 0 (lit< tt) refl) in
+    let first = h.only (1 ∷ []) (each_factors_without_images 1 (lit< tt) refl) in
+    unequal 0 1 refl (ap (λ (l : List ℕ). get_or l 0 0) (zeroth ∙ sym first))

@@ -29,9 +29,11 @@ killed_generator = record { names = x_name ∷ []; fixed = (pos 1 ∷ []) ∷ []
 abbrev pub free_generator : LPresentation
 free_generator = record { names = x_name ∷ []; fixed = []; iterated = []; endos = [] }
 
+-- no generator
 abbrev pub trivial_presentation : Presentation
 trivial_presentation = record { prime = 2; rank = 0; powers = []; commutators = [] }
 
+-- no generator; x is trivial
 abbrev pub trivial_answer : Answer
 trivial_answer = record {
   presentation = trivial_presentation;
@@ -41,20 +43,24 @@ trivial_answer = record {
   images = [] ∷ [];
 }
 
+-- there is one list of no exponents
 pub no-letter-list : (e : List ℕ) → length e ≡ 0 → e ≡ []
 no-letter-list [] h = refl
 no-letter-list (n ∷ e) h = absurd (omega (arith, h))
 
+-- there is one word over no generators
 pub no-letter-word : (w : List ℤ) → HasLetters 0 w → w ≡ []
 no-letter-word [] h = refl
 no-letter-word (pos zero ∷ w) h = absurd h.0
 no-letter-word (pos (suc k) ∷ w) h = absurd (omega (arith, h.0))
 no-letter-word (negsuc k ∷ w) h = absurd (omega (arith, h.0))
 
+-- no generator has no relation
 pub no-relator-of : (r : List ℤ) → IsRelatorOf trivial_presentation r → ⊥
 no-relator-of r (power_relator i h) = omega (arith, h)
 no-relator-of r (commutator_relator j i hj hi) = omega (arith, hj)
 
+-- there is nothing to check
 pub trivial_is_presentation : IsPresentation trivial_presentation
 trivial_is_presentation = record {
   power_count = refl;
@@ -64,6 +70,7 @@ trivial_is_presentation = record {
   commutator_sides = λ j i h _. absurd (omega (arith, h));
 }
 
+-- one name and one image, the empty word
 pub trivial_is_answer : IsAnswer trivial_answer
 trivial_is_answer = record {
   presentation = trivial_is_presentation;
@@ -78,9 +85,11 @@ trivial_is_answer = record {
   definitions = λ k h. absurd (omega (arith, h));
 }
 
+-- a word that is empty is joined to the empty word
 pub joined-to-empty : (w : List ℤ) → w ≡ [] → Joined trivial_presentation w []
 joined-to-empty w e = rw e done
 
+-- one normal word, and one word
 pub trivial_is_consistent : IsConsistent trivial_presentation
 trivial_is_consistent = record {
   unique = λ e f he hf _. no-letter-list e he.count ∙ sym (no-letter-list f hf.count);
@@ -91,14 +100,17 @@ letters-in-series : (c : ℕ) (w : List ℤ) → InSeries trivial_presentation c
 letters-in-series zero w h = h
 letters-in-series (suc c) w h = h.letters
 
+-- each level has the empty word alone
 pub trivial_has_class : (c : ℕ) → HasClass trivial_presentation c
 trivial_has_class c w h = joined-to-empty w (no-letter-word w (letters-in-series c w h))
 
+-- x is carried to the empty word
 pub trivial_kills : Kills killed_generator trivial_answer
 trivial_kills r (fixed_relator zero h) = done
 trivial_kills r (fixed_relator (suc i) h) = absurd (omega (arith, h))
 trivial_kills r (iterated_relator s i hs h) = absurd (omega (arith, h))
 
+-- there is no generator to generate
 pub trivial_is_generated : IsGenerated trivial_answer
 trivial_is_generated k h = absurd (omega (arith, h))
 
@@ -111,6 +123,7 @@ trivial-images : (T : Table) (f : List ℕ) → get_or f 0 0 ≡ 0 → (i : ℕ)
 trivial-images T f e zero h = sym e
 trivial-images T f e (suc i) h = absurd (omega (arith, h))
 
+-- each map that obeys carries x to 0, and factors through the trivial group
 pub trivial_is_universal : (c : ℕ) → IsUniversal killed_generator 2 c trivial_answer
 trivial_is_universal c T f g _ o = record {
   through = [];
@@ -123,6 +136,7 @@ trivial_is_universal c T f g _ o = record {
   only = λ h fits. no-letter-list h fits.count;
 }
 
+-- x killed, at every class
 pub trivial_is_largest : (c : ℕ) → IsLargest killed_generator 2 c trivial_answer
 trivial_is_largest c = record {
   answer = trivial_is_answer;
@@ -136,6 +150,7 @@ trivial_is_largest c = record {
   universal = trivial_is_universal c;
 }
 
+-- without fixed and iterated relators no word is a relator
 pub no-relator : (r : List ℤ) → IsRelator free_generator r → ⊥
 no-relator r (fixed_relator i h) = omega (arith, h)
 no-relator r (iterated_relator s i hs h) = omega (arith, h)
@@ -153,6 +168,7 @@ trivial_is_universal_at_class_zero T f g c o = record {
   only = λ h fits. no-letter-list h fits.count;
 }
 
+-- x free, at class 0
 pub trivial_is_largest_at_class_zero : IsLargest free_generator 2 0 trivial_answer
 trivial_is_largest_at_class_zero = record {
   answer = trivial_is_answer;
@@ -166,6 +182,7 @@ trivial_is_largest_at_class_zero = record {
   universal = trivial_is_universal_at_class_zero;
 }
 
+-- every element obeys no relators
 pub one_obeys_nothing : Obeys two_elements (1 ∷ []) free_generator
 one_obeys_nothing = record { count = refl; elements = (lit< tt, tt); kills = λ r h. absurd (no-relator r h) }
 
@@ -175,5 +192,6 @@ trivial_is_not_universal u =
     let once = u two_elements (1 ∷ []) two_elements_are_group two_elements_have_class_one one_obeys_nothing in
     unequal 0 1 refl (once.factors.images 0 (lit< tt))
 
+-- so x free, at class 1, has a larger quotient
 pub trivial_is_not_largest : IsLargest free_generator 2 1 trivial_answer → ⊥
 trivial_is_not_largest h = trivial_is_not_universal h.universal

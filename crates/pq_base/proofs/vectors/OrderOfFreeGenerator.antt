@@ -37,6 +37,7 @@ one-carries U f g c o =
     carries zero h = refl
     carries (suc i) h = absurd (omega (arith, h))
 
+-- x free, at class 1: the order is 2^1
 pub free_generator_has_order_two : HasOrder free_generator 2 1 1
 free_generator_has_order_two = record {
   table = two_elements;

@@ -48,6 +48,7 @@ collapsing = record {
   commutators = [] ∷ ((1 ∷ []) ∷ []) ∷ ([] ∷ [] ∷ []) ∷ [];
 }
 
+-- no later generator, so an empty right side
 pub order_two_is_presentation : IsPresentation order_two
 order_two_is_presentation = tested_presentation order_two (record {
   power_count = refl;
@@ -57,6 +58,7 @@ order_two_is_presentation = tested_presentation order_two (record {
   commutator_sides = refl;
 })
 
+-- three generators
 pub dihedral_of_order_eight_is_presentation : IsPresentation dihedral_of_order_eight
 dihedral_of_order_eight_is_presentation = tested_presentation dihedral_of_order_eight (record {
   power_count = refl;
@@ -66,6 +68,7 @@ dihedral_of_order_eight_is_presentation = tested_presentation dihedral_of_order_
   commutator_sides = refl;
 })
 
+-- four generators
 pub dihedral_of_order_sixteen_is_presentation : IsPresentation dihedral_of_order_sixteen
 dihedral_of_order_sixteen_is_presentation = tested_presentation dihedral_of_order_sixteen (record {
   power_count = refl;
@@ -75,6 +78,7 @@ dihedral_of_order_sixteen_is_presentation = tested_presentation dihedral_of_orde
   commutator_sides = refl;
 })
 
+-- three generators with two powers
 pub quaternion_is_presentation : IsPresentation quaternion
 quaternion_is_presentation = tested_presentation quaternion (record {
   power_count = refl;
@@ -84,6 +88,7 @@ quaternion_is_presentation = tested_presentation quaternion (record {
   commutator_sides = refl;
 })
 
+-- two generators at the prime 3
 pub cycle_of_nine_is_presentation : IsPresentation cycle_of_nine
 cycle_of_nine_is_presentation = tested_presentation cycle_of_nine (record {
   power_count = refl;
@@ -93,6 +98,7 @@ cycle_of_nine_is_presentation = tested_presentation cycle_of_nine (record {
   commutator_sides = refl;
 })
 
+-- a presentation need not be consistent
 pub collapsing_is_presentation : IsPresentation collapsing
 collapsing_is_presentation = tested_presentation collapsing (record {
   power_count = refl;
@@ -123,9 +129,11 @@ pub commutator_relator_of_order_sixteen
     : IsRelatorOf dihedral_of_order_sixteen (negsuc 2 ∷ negsuc 1 ∷ pos 3 ∷ pos 2 ∷ negsuc 3 ∷ [])
 commutator_relator_of_order_sixteen = commutator_relator 2 1 (lit< tt) (lit< tt)
 
+-- a3^2 = a4
 pub power_word_of_order_sixteen : power_word dihedral_of_order_sixteen 2 ≡ pos 4 ∷ []
 power_word_of_order_sixteen = refl
 
+-- [a2,a1] = a3
 pub commutator_word_of_order_eight : commutator_word dihedral_of_order_eight 1 0 ≡ pos 3 ∷ []
 commutator_word_of_order_eight = refl
 
@@ -135,6 +143,7 @@ relator_of_order_two r (power_relator zero h) = refl
 relator_of_order_two r (power_relator (suc i) h) = absurd (omega (arith, h))
 relator_of_order_two r (commutator_relator j i hj hi) = absurd (omega (arith, hj, hi))
 
+-- so a1 alone is none
 pub letter_is_no_relator : IsRelatorOf order_two (pos 1 ∷ []) → ⊥
 letter_is_no_relator h = unequal 1 2 refl (ap (λ (w : List ℤ). length w) (relator_of_order_two (pos 1 ∷ []) h))
 
@@ -142,11 +151,14 @@ letter_is_no_relator h = unequal 1 2 refl (ap (λ (w : List ℤ). length w) (rel
 pub word_of_exponents : normal_word (1 ∷ 0 ∷ 2 ∷ []) ≡ pos 1 ∷ pos 3 ∷ pos 3 ∷ []
 word_of_exponents = refl
 
+-- three exponents below 3
 pub exponents_are_normal : IsNormal 3 3 (1 ∷ 0 ∷ 2 ∷ [])
 exponents_are_normal = record { count = refl; below = (lit< tt, (lit< tt, (lit< tt, tt))) }
 
+-- 2 is not below 2
 pub exponent_two_is_not_normal : IsNormal 2 3 (1 ∷ 0 ∷ 2 ∷ []) → ⊥
 exponent_two_is_not_normal h = omega (arith, h.below.1.1.0)
 
+-- two exponents for three generators
 pub two_exponents_are_not_normal : IsNormal 3 3 (1 ∷ 0 ∷ []) → ⊥
 two_exponents_are_not_normal h = unequal 2 3 refl h.count

@@ -6,6 +6,7 @@ use Rattle.pq_base.specs.Canonical.{want_order, up_to_class, all_commutators, is
 use Rattle.pq_base.proofs.vectors.Tests.{unequal}
 use Rattle.pq_base.proofs.vectors.Answers.{answer_of_order_eight, answer_of_order_sixteen, answer_of_cycle}
 
+-- by the first generator, then the second
 pub commutators_of_three : all_commutators 3 ≡ commutator 2 1 ∷ commutator 3 1 ∷ commutator 3 2 ∷ []
 commutators_of_three = refl
 
@@ -35,9 +36,11 @@ definitions_are_left_out e = unequal 5 6 refl (ap (λ (l : List Definition). len
 pub commutator_qualifies : is_qualifying answer_of_order_eight 2 (commutator 3 1) ≡ true
 commutator_qualifies = refl
 
+-- a3^2 does too
 pub power_qualifies : is_qualifying answer_of_order_eight 2 (power 3) ≡ true
 power_qualifies = refl
 
+-- [a2,a1] does not, since both weights are 1
 pub early_commutator_does_not_qualify : is_qualifying answer_of_order_eight 2 (commutator 2 1) ≡ false
 early_commutator_does_not_qualify = refl
 
@@ -49,9 +52,11 @@ deep_commutator_does_not_qualify = refl
 pub order_sixteen_up_to_class_two : up_to_class answer_of_order_sixteen 2 ≡ answer_of_order_eight
 order_sixteen_up_to_class_two = refl
 
+-- an answer up to its class is itself
 pub order_eight_up_to_its_class : up_to_class answer_of_order_eight 2 ≡ answer_of_order_eight
 order_eight_up_to_its_class = refl
 
+-- up to a smaller class it is not
 pub order_eight_up_to_class_one_is_smaller : up_to_class answer_of_order_eight 1 ≢ answer_of_order_eight
 order_eight_up_to_class_one_is_smaller e = unequal 2 3 refl (ap (λ (A : Answer). length A.weights) e)
 
@@ -59,6 +64,7 @@ order_eight_up_to_class_one_is_smaller e = unequal 2 3 refl (ap (λ (A : Answer)
 pub new_part_of_image : new_part answer_of_cycle 1 (image 2) ≡ 2 ∷ []
 new_part_of_image = refl
 
+-- [a3,a2] has a4
 pub new_part_of_commutator : new_part answer_of_order_sixteen 2 (commutator 3 2) ≡ 1 ∷ []
 new_part_of_commutator = refl
 
@@ -66,8 +72,10 @@ new_part_of_commutator = refl
 pub new_part_of_power : new_part answer_of_order_eight 1 (power 1) ≡ 0 ∷ []
 new_part_of_power = refl
 
+-- a3 is the one generator of weight 2
 pub new_generators_of_class_two : new_count answer_of_order_eight 1 ≡ 1
 new_generators_of_class_two = refl
 
+-- 1 at place 1 of three
 pub unit_of_three : unit 3 1 ≡ 0 ∷ 1 ∷ 0 ∷ []
 unit_of_three = refl

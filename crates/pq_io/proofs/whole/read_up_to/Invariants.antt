@@ -1,3 +1,4 @@
+-- What was read so far came off the front of what the source told, and is at most one byte more than the limit.
 use Rattle.std.proofs.Common.{◌+◌, ◌-◌, ◌≤◌, vec_len}
 use Rattle.std.specs.Io.KnownBytes.{Consumes}
 use Rattle.pq_io.proofs.whole.read_up_to.Given as goal

@@ -1,3 +1,4 @@
+-- What the sink gained and what is still to be offered are all the bytes.
 use Rattle.std.proofs.Common.{◌≤◌, length, IsNone}
 use Rattle.pq_io.proofs.Offers.{Offered}
 use Rattle.pq_io.proofs.whole.write_whole.Given as goal

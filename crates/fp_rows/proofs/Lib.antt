@@ -1,0 +1,5 @@
+pub mod RowLaws
+pub mod EntryLaws
+pub mod PlaceByPlace
+pub mod KernelLoops
+pub mod RowStorage

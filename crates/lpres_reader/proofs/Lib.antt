@@ -1,0 +1,13 @@
+pub mod FrontLemmas
+pub mod Positions
+pub mod LineLemmas
+pub mod Leads
+pub mod PlainNames
+pub mod KeptNames
+pub mod PlainGenerators
+pub mod PlainRelators
+pub mod NarrowForms
+pub mod ShallowLines
+pub mod PlainTexts
+pub mod NarrowTexts
+pub mod Samples

@@ -1,0 +1,12 @@
+pub mod Lines
+pub mod Tokens
+pub mod Words
+pub mod Items
+pub mod Limits
+pub mod Reads
+pub mod Narrow
+pub mod Front
+pub mod Left
+pub mod Presentations
+pub mod Refusals
+pub mod PlainLines

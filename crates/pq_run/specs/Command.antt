@@ -1,0 +1,34 @@
+-- The words of a command: the one list of texts that spells it. Numbers are in decimal digits.
+-- From: this project's own table of command words.
+use Rattle.std.specs.Prelude.{◌≡◌, ◌≤◌, ℕ, List, [], ◌∷◌, codes, decimal}
+use Rattle.pq_base.specs.Prime.{prime_value}
+use Rattle.pq_run.specs.declared.command.Command.{Command}
+use Rattle.pq_run.specs.declared.command.Command.TheVariants.{Quotient, Json, Certify, Check, Sample}
+
+abbrev pub command_words : Command → List (List ℕ)
+command_words (Quotient p c) = codes "quotient" ∷ decimal (prime_value p) ∷ decimal c ∷ []
+command_words (Json p c) = codes "quotient" ∷ decimal (prime_value p) ∷ decimal c ∷ codes "json" ∷ []
+command_words (Certify p c) = codes "certify" ∷ decimal (prime_value p) ∷ decimal c ∷ []
+command_words Check = codes "check" ∷ []
+command_words (Sample n) = codes "sample" ∷ decimal n ∷ []
+
+-- a class that can be asked for
+abbrev pub IsClass : ℕ → Type 0
+IsClass c = (1 ≤ c) × (c ≤ 60)
+
+-- the numbers of a command are within their limits
+abbrev pub IsInRange : Command → Type 0
+IsInRange (Quotient p c) = IsClass c
+IsInRange (Json p c) = IsClass c
+IsInRange (Certify p c) = IsClass c
+IsInRange Check = Unit {0}
+IsInRange (Sample n) = n ≤ 999999
+
+-- the words are those of this command
+pub record CommandWords (words : List (List ℕ)) (command : Command) : Type 0 where
+  pub range : IsInRange command
+  pub spelled : words ≡ command_words command
+
+-- the words are in the table
+abbrev pub AreCommandWords : List (List ℕ) → Type 0
+AreCommandWords words = (command : Command) × CommandWords words command

@@ -1,9 +1,11 @@
 -- What the plain rule gives in small groups: products in the dihedral group of order sixteen, the rows of the overlaps of
 -- the cover of the dihedral group of order eight, and an overlap that does not agree.
-use Rattle.std.proofs.Common.{◌≡◌, ℕ, List, [], ◌∷◌, refl}
+use Rattle.std.proofs.Common.{◌≡◌, ℕ, pos, negsuc, List, [], ◌∷◌, refl}
 use Rattle.pq_base.specs.Presentation.{Presentation}
 use Rattle.pc_presentation.specs.Rowed.{RowedPresentation, without_rows, row_sum, flat}
 use Rattle.pc_presentation.specs.Collection.{Configuration, State, identity, push_word, push_configuration, plain_push_from, plain_push}
+use Rattle.pc_presentation.specs.NormalTable.{normal_table, generator_numbers}
+use Rattle.pc_presentation.specs.Arithmetic.{evaluate_from}
 use Rattle.pc_presentation.specs.Overlaps.{left_way, right_way}
 use Rattle.pc_presentation.specs.Overlaps.Overlap.{triple, left, right, own}
 
@@ -101,3 +103,26 @@ left_way_of_cube = refl
 right_way_of_cube : (end_of collapsing (right_way collapsing (own 0))).exponents ≡ 1 ∷ 1 ∷ 0 ∷ []
 unfolding plain_push_from
 right_way_of_cube = refl
+
+-- the table of the cyclic group of order four, where a1 squared is a2
+abbrev cycle_of_four : Presentation
+cycle_of_four = record { prime = 2; rank = 2; powers = (1 ∷ []) ∷ [] ∷ []; commutators = [] ∷ ([] ∷ []) ∷ [] }
+
+table_of_cycle_of_four : normal_table cycle_of_four ≡ record {
+  size = 4;
+  rows = (0 ∷ 1 ∷ 2 ∷ 3 ∷ []) ∷ (1 ∷ 2 ∷ 3 ∷ 0 ∷ []) ∷ (2 ∷ 3 ∷ 0 ∷ 1 ∷ []) ∷ (3 ∷ 0 ∷ 1 ∷ 2 ∷ []) ∷ [];
+}
+unfolding plain_push_from normal_table
+table_of_cycle_of_four = refl
+
+generators_of_cycle_of_four : generator_numbers cycle_of_four ≡ 1 ∷ 2 ∷ []
+generators_of_cycle_of_four = refl
+
+-- the value of a1 a2 a1 a2 in the dihedral group of order sixteen is a3 a4; the inverses of a1 and a2 are a1 and a2
+abbrev images_in_order_sixteen : List State
+images_in_order_sixteen = record { exponents = 1 ∷ 0 ∷ 0 ∷ 0 ∷ []; row = [] } ∷ record { exponents = 0 ∷ 1 ∷ 0 ∷ 0 ∷ []; row = [] } ∷ []
+
+value_of_a_word : (evaluate_from (without_rows dihedral_of_order_sixteen) (plain_push (without_rows dihedral_of_order_sixteen)) images_in_order_sixteen images_in_order_sixteen
+    (identity (without_rows dihedral_of_order_sixteen) 4) (pos 1 ∷ pos 2 ∷ pos 1 ∷ negsuc 1 ∷ [])).exponents ≡ 0 ∷ 0 ∷ 1 ∷ 1 ∷ []
+unfolding plain_push_from
+value_of_a_word = refl

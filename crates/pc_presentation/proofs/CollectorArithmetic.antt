@@ -24,7 +24,7 @@ use Rattle.pc_presentation.proofs.StepShapes.{spelled-irreducible}
 use Rattle.pc_presentation.proofs.AnyRun.{same_behind}
 use Rattle.pc_presentation.proofs.TailLaws.{row_words-add, run-joined_flat, letter-behind}
 use Rattle.pc_presentation.proofs.Quotients.{push-spelled, product-state, is_quotient}
-use Rattle.pc_presentation.proofs.Consistency.{plain_pushes_are_runs}
+use Rattle.pc_presentation.proofs.Reached.{plain_meaning}
 
 -- a run from an irreducible word is empty
 run-irreducible : (Y : RowedPresentation) (k : ℕ) {c d : Configuration} → IsIrreducible Y k c.word → RunFrom Y k c d → c ≡ d
@@ -83,7 +83,7 @@ module _ (Y : RowedPresentation) (rowed : IsRowed Y) (big : 1 < Y.base.prime) (p
       (run-joined_flat Y rowed (omega arith) (meaning.pushed s i h l).run
       (AllBelow-append Y.base.rank (spelled 0 s.exponents) (i ∷ []) (AllBelow-spelled Y.base.rank 0 s.exponents (omega arith)) (l, tt)) h.row)
 
-  push_word-joined : (u : List ℕ) (s : State) → IsState Y Y.base.rank s → AllBelow Y.base.rank u
+  pub push_word-joined : (u : List ℕ) (s : State) → IsState Y Y.base.rank s → AllBelow Y.base.rank u
       → Joined (flat Y) (word_of Y s ++ letters u) (word_of Y (push_word push s u))
   push_word-joined [] s h b = joined-from_equal (flat Y) (append-nil (word_of Y s))
   push_word-joined (i ∷ u) s h b =
@@ -105,7 +105,7 @@ module _ (Y : RowedPresentation) (rowed : IsRowed Y) (big : 1 < Y.base.prime) (p
       (joined-trans (joined-append_right (word_from Y.base.rank v.row) (joined-sym pushed))
       (joined-from_equal (flat Y) (append_assoc (word_of Y u) (letters w) (word_from Y.base.rank v.row)))))
 
-  identity-word : word_of Y (identity Y Y.base.rank) ≡ []
+  pub identity-word : word_of Y (identity Y Y.base.rank) ≡ []
   identity-word =
       ap (λ (u : List ℕ). letters u ++ word_from Y.base.rank (replicate Y.width 0)) (spelled-zeros 0 Y.base.rank) ∙ word_from-zeros Y.base.rank Y.width
 
@@ -177,4 +177,4 @@ pub collectors_have_arithmetic : CollectorsHaveArithmetic
 collectors_have_arithmetic Y rowed big push meaning = has_arithmetic Y rowed big push meaning
 
 pub plain_rule_is_a_meaning : PlainRuleIsAMeaning
-plain_rule_is_a_meaning Y rowed positive = record { pushed = λ s i h l. plain_pushes_are_runs Y rowed positive s i h l }
+plain_rule_is_a_meaning Y rowed positive = plain_meaning Y rowed positive

@@ -21,7 +21,7 @@ use Rattle.pc_presentation.proofs.OverlapsFrom.PushChainFrom.{none_from, then_fr
 use Rattle.pc_presentation.proofs.OverlapsAct.{overlaps-act}
 use Rattle.pc_presentation.proofs.FlatLaws.{flat-presentation, flat-without_rows, without_rows-rowed}
 use Rattle.pc_presentation.proofs.StateRelators.{normal_words-unique}
-use Rattle.pc_presentation.proofs.Reached.{words-reach}
+use Rattle.pc_presentation.proofs.Reached.{words-reach, plain_meaning}
 
 -- chains of pushes at the first generator
 chain_from : (Y : RowedPresentation) {s t : State} {w : List ℕ} → PushChain Y s w t → PushChainFrom Y Y.base.rank 0 s w t
@@ -32,7 +32,7 @@ chain-state : (Y : RowedPresentation) {s t : State} {w : List ℕ} → PushChain
 chain-state Y no_push h = h
 chain-state Y (then_push q c) h = chain-state Y c q.state
 
-replicate-snoc : (p j i : ℕ) → 0 < p → replicate p j ++ i ∷ [] ≡ replicate (pred p) j ++ j ∷ i ∷ []
+pub replicate-snoc : (p j i : ℕ) → 0 < p → replicate p j ++ i ∷ [] ≡ replicate (pred p) j ++ j ∷ i ∷ []
 replicate-snoc p j i l =
     let e : pred p + 1 ≡ p = omega arith in
     ap (λ (w : List ℕ). w ++ i ∷ []) (sym (replicate-append-replicate {A = ℕ} (pred p) 1 j ∙ ap (λ (m : ℕ). replicate m j) e))
@@ -97,7 +97,7 @@ module _ (Y : RowedPresentation) (rowed : IsRowed Y) (big : 1 < Y.base.prime) wh
       let v : IsState Y Y.base.rank (plain_push Y s i) = plain-state Y rowed (omega arith) Y.base.rank 0 s i h in
       then_push (record { run = plain_push-run Y rowed (omega arith) s i h b.0; state = v }) (plain_chain (plain_push Y s i) w v b.1)
 
-  left_way-below : (o : Overlap) → IsOverlap Y.base.rank o → AllBelow Y.base.rank (left_way Y o).word
+  pub left_way-below : (o : Overlap) → IsOverlap Y.base.rank o → AllBelow Y.base.rank (left_way Y o).word
   left_way-below (triple k j i) h = let a = h.0 in let b = h.1 in let c = h.2 in (c, ((let z : j < Y.base.rank = omega arith in z), ((let z : i < Y.base.rank = omega arith in z), tt)))
   left_way-below (left j i) h =
       let a = h.0 in let b = h.1 in
@@ -111,7 +111,7 @@ module _ (Y : RowedPresentation) (rowed : IsRowed Y) (big : 1 < Y.base.prime) wh
   power-below : (i : ℕ) → i < Y.base.rank → AllBelow Y.base.rank (spelled (suc i) (power_side Y.base i))
   power-below i l = let c = (rowed.base.power_sides i l).count in AllBelow-spelled Y.base.rank (suc i) (power_side Y.base i) (omega arith)
 
-  right_way-below : (o : Overlap) → IsOverlap Y.base.rank o → AllBelow Y.base.rank (right_way Y o).word
+  pub right_way-below : (o : Overlap) → IsOverlap Y.base.rank o → AllBelow Y.base.rank (right_way Y o).word
   right_way-below (triple k j i) h =
       let a = h.0 in let b = h.1 in let c = h.2 in
       let y : j < Y.base.rank = omega arith in
@@ -137,7 +137,7 @@ module _ (Y : RowedPresentation) (rowed : IsRowed Y) (big : 1 < Y.base.prime) wh
       }
 
 pub plain_pushes_are_runs : PlainPushesAreRuns
-plain_pushes_are_runs Y rowed positive s i h l = record { run = plain_push-run Y rowed positive s i h l; state = plain-state Y rowed positive Y.base.rank 0 s i h }
+plain_pushes_are_runs Y rowed positive s i h l = (plain_meaning Y rowed positive).pushed s i h l
 
 pub rows_ride_along : RowsRideAlong
 rows_ride_along Y t s i = plain-rides Y Y.base.rank 0 t s i

@@ -1,38 +1,21 @@
 -- Each run that pushes a generator on a state leaves the earlier exponents and raises the generator's own modulo the
 -- prime, whatever the choice of its steps.
-use Rattle.std.proofs.Common.{◌≡◌, ℕ, zero, suc, ◌+◌, ◌%◌, ◌<◌, List, [], ◌∷◌, ◌++◌, get_or, map, replicate, refl, ap, sym, ◌∙◌, subst, arith, append_assoc, mod-eq_of_lt}
-use Rattle.std.proofs.lemmas.List.{map-append}
+use Rattle.std.proofs.Common.{◌≡◌, ℕ, zero, suc, ◌+◌, ◌%◌, ◌<◌, List, [], ◌∷◌, ◌++◌, get_or, map, replicate, ap, sym, ◌∙◌, subst, arith, append_assoc, mod-eq_of_lt}
 use Rattle.std.proofs.Math.Nat.{mod_self}
 use Rattle.pq_base.specs.Presentation.{power_side, commutator_side}
-use Rattle.pc_presentation.specs.Rowed.{RowedPresentation, row_sum}
+use Rattle.pc_presentation.specs.Rowed.{RowedPresentation}
 use Rattle.pc_presentation.specs.Collection.{Configuration, State, IsState, spelled, configuration_of, before}
 use Rattle.pc_presentation.specs.Collection.Run.{stop, move}
 use Rattle.pc_presentation.specs.CollectionLaws.{ExponentsAfterPush, EarlierExponentsAreFinal}
 use Rattle.pc_presentation.proofs.RowLaws.{is_before}
 use Rattle.pc_presentation.proofs.PlainRule.{spelled-suc}
 use Rattle.pc_presentation.proofs.RunLaws.{RunFrom, replacement_from, run-weaken}
-use Rattle.pc_presentation.proofs.StepPlaces.{StepAt, IsIrreducible, step-suffix, placed_step, step_of_place}
+use Rattle.pc_presentation.proofs.StepPlaces.{StepAt, IsIrreducible, step-suffix, placed_step}
 use Rattle.pc_presentation.proofs.StepShapes.{step-behind, spelled-irreducible}
 use Rattle.pc_presentation.proofs.PassShapes.{late, LateStep, late_step}
 use Rattle.pc_presentation.proofs.PassShapes.LateStep.{inside, passes, full}
+use Rattle.pc_presentation.proofs.LaterRuns.{push-behind}
 use Rattle.pc_presentation.proofs.AnyRun.{same_behind, same_late}
-
--- a run from a word of later letters behind copies of the generator
-record EndsBehind (Y : RowedPresentation) (k e : ℕ) (c : Configuration) (d : Configuration) : Type 0 where
-  pub end : Configuration
-  pub word_is : d.word ≡ replicate e 0 ++ map suc end.word
-  pub row_is : d.row ≡ end.row
-  pub run : RunFrom Y (suc k) c end
-
-run-behind : (Y : RowedPresentation) (k e : ℕ) (c : Configuration) {b d : Configuration} → e < Y.base.prime
-    → b.word ≡ replicate e 0 ++ map suc c.word → b.row ≡ c.row → RunFrom Y k b d → EndsBehind Y k e c d
-run-behind Y k e c l f g stop = record { end = c; word_is = f; row_is = g; run = stop }
-run-behind Y k e c l f g (move {c = a} {d = b} s m) =
-    let q = placed_step Y k s in
-    let x = step-behind Y k e c.word b.word q.added (omega arith) l (subst (λ (w : List ℕ). StepAt Y k w b.word q.added) f q.step) in
-    let next : Configuration = record { word = x.word; row = row_sum Y.base.prime c.row q.added } in
-    let r = run-behind Y k e next l x.word_is (q.row_is ∙ ap (λ (z : List ℕ). row_sum Y.base.prime z q.added) g) m in
-    record { end = r.end; word_is = r.word_is; row_is = r.row_is; run = move (step_of_place Y (suc k) c.word x.word c.row q.added x.step) r.run }
 
 -- the words on the way from a word with a late copy of the generator
 data OnTheWay (Y : RowedPresentation) (k e : ℕ) (w : List ℕ) : Type 0 where
@@ -78,21 +61,6 @@ module _ (Y : RowedPresentation) (big : 1 < Y.base.prime) (n k a b : ℕ) (s t :
           let y : a + 1 ≡ Y.base.prime = omega arith in
           x.0 ∙ sym (ap (λ (m : ℕ). m % Y.base.prime) y ∙ mod_self Y.base.prime)
 
-  -- a later generator
-  later_after : (i : ℕ) → RunFrom Y k (record { word = spelled 0 (a ∷ s.exponents) ++ suc i ∷ []; row = s.row }) (configuration_of (before b t))
-      → (b ≡ a) × RunFrom Y (suc k) (record { word = spelled 0 s.exponents ++ i ∷ []; row = s.row }) (configuration_of t)
-  later_after i m =
-      let c : Configuration = record { word = spelled 0 s.exponents ++ i ∷ []; row = s.row } in
-      let r = run-behind Y k a c a_below
-      (append_assoc (replicate a 0) (spelled 1 s.exponents) (suc i ∷ [])
-      ∙ ap (λ (w : List ℕ). replicate a 0 ++ (w ++ suc i ∷ [])) (spelled-suc 0 s.exponents)
-      ∙ ap (λ (w : List ℕ). replicate a 0 ++ w) (sym (map-append suc (spelled 0 s.exponents) (i ∷ []))))
-      refl m in
-      let x = same_behind b a (spelled 0 t.exponents) r.end.word (ap (λ (w : List ℕ). replicate b 0 ++ w) (sym (spelled-suc 0 t.exponents)) ∙ r.word_is) in
-      let end_is : r.end ≡ configuration_of t =
-      ap (λ (w : List ℕ). record { word = w; row = r.end.row }) (sym x.1) ∙ ap (λ (y : List ℕ). record { word = spelled 0 t.exponents; row = y }) (sym r.row_is) in
-      (x.0, subst (λ (z : Configuration). RunFrom Y (suc k) c z) end_is r.run)
-
 -- the exponents of a push before an exponent that stays
 after_before : (Y : RowedPresentation) (a b i : ℕ) (s t : State) → b ≡ a → ExponentsAfterPush Y s i t → ExponentsAfterPush Y (before a s) (suc i) (before b t)
 after_before Y a b i s t e h = record { earlier = earlier_before; own = h.own }
@@ -110,7 +78,7 @@ exponents_before Y big n k a b zero s t l l' h h' rest m run = record {
   own = own_after Y big n k a b s t l l' h run;
 }
 exponents_before Y big n k a b (suc i) s t l l' h h' rest m run =
-    let r = later_after Y big n k a b s t l l' h i run in
+    let r = push-behind Y k a b s t i l run in
     after_before Y a b i s t r.0 (rest i (omega arith) r.1)
 
 exponents_from : (Y : RowedPresentation) → 1 < Y.base.prime → (n k : ℕ) (s t : State) (i : ℕ) → IsState Y n s → IsState Y n t → i < n

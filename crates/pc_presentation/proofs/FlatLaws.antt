@@ -164,10 +164,10 @@ module _ (Y : RowedPresentation) (rowed : IsRowed Y) where
     }
 
 -- without rows
-abbrev nothing : List ℕ → List ℕ
+abbrev pub nothing : List ℕ → List ℕ
 nothing e = []
 
-no_rows : (i : ℕ) (xs : List (List ℕ)) → get_or (map nothing xs) i [] ≡ []
+pub no_rows : (i : ℕ) (xs : List (List ℕ)) → get_or (map nothing xs) i [] ≡ []
 no_rows i xs = get_or-map nothing xs i []
 
 pub without_rows-rowed : (P : Presentation) → IsPresentation P → IsRowed (without_rows P)

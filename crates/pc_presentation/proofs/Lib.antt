@@ -23,6 +23,7 @@ pub mod StepPlaces
 pub mod StepShapes
 pub mod PassShapes
 pub mod AnyRun
+pub mod LaterRuns
 pub mod OverlapsFrom
 pub mod OverlapsAct
 pub mod FlatLaws
@@ -43,3 +44,7 @@ pub mod NormalProducts
 pub mod NormalTableLaws
 pub mod Quotients
 pub mod CollectorArithmetic
+pub mod RowMaps
+pub mod ConsistentPushes
+pub mod ConsistentOverlaps
+pub mod LevelWords

@@ -228,6 +228,8 @@ module _ (P : Presentation) (h : IsPresentation P) (big : 1 < P.prime) (consiste
   normal_words_are_a_table = record {
     group = is_group;
     size = size-normal_table P;
+    elements = λ a l. (digits P.prime P.rank a, (digits-normal P.prime P.rank a positive), number_of-digits P.prime P.rank a positive (in_size a l));
+    distinct = λ e f n m q. sym (digits-number_of P.prime P.rank e n) ∙ ap (digits P.prime P.rank) q ∙ digits-number_of P.prime P.rank f m;
     products = times-number_of;
     generators = gens-below;
     relators = λ r m. joined-value r [] (HasLetters-relator P h m) tt (relator-joined P m);

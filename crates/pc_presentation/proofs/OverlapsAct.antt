@@ -1,12 +1,12 @@
 -- Overlaps that agree by some chains of pushes make the relations of the presentation act: by going down the generators,
 -- where each overlap whose least generator is the one at place k gives one of the facts that the step wants.
-use Rattle.std.proofs.Common.{◌≡◌, ℕ, zero, suc, pred, ◌+◌, ◌-◌, ◌<◌, ◌≤◌, List, [], ◌∷◌, ◌++◌, length, map, drop, replicate, refl, ap, sym, ◌∙◌, subst, arith}
+use Rattle.std.proofs.Common.{◌≡◌, ℕ, zero, suc, pred, ◌+◌, ◌-◌, ◌<◌, ◌≤◌, List, [], ◌∷◌, ◌++◌, length, map, replicate, refl, ap, sym, ◌∙◌, subst, arith}
 use Rattle.std.proofs.lemmas.List.{replicate-append-replicate, length-replicate, append-nil}
 use Rattle.pq_base.specs.Table.{AllBelow}
 use Rattle.pq_base.specs.Presentation.{IsNormal, power_side, commutator_side}
 use Rattle.pc_presentation.specs.Rowed.{RowedPresentation, IsRowed, power_row, commutator_row}
 use Rattle.pc_presentation.specs.Collection.{State, IsState, identity, spelled, add_row, before, push_word}
-use Rattle.pc_presentation.proofs.RowLaws.{row_sum-zeros, identity-state, AllBelow-zeros}
+use Rattle.pc_presentation.proofs.RowLaws.{before-injective, row_sum-zeros, identity-state, AllBelow-zeros}
 use Rattle.pc_presentation.proofs.PushLaws.{Acts, push_word-append, push_word-keeps}
 use Rattle.pc_presentation.proofs.PlainRule.{plain, plain-later, plain-later_word, plain-state, plain-spelled, spelled-suc, spelled-zeros, map-replicate}
 use Rattle.pc_presentation.proofs.RunLaws.{ReplacementFrom}
@@ -76,9 +76,6 @@ module _ (Y : RowedPresentation) (rowed : IsRowed Y) (big : 1 < Y.base.prime) (n
       (row_sum-zeros Y.base.prime Y.width (push_word (past Y n k) (identity Y n) (spelled 0 s.exponents)).row v.row)
       ∙ ap (push_word (past Y n k) (identity Y n)) s.is
 
-  before_injective : (e : ℕ) (s t : State) → before e s ≡ before e t → s ≡ t
-  before_injective e s t q = ap (λ (z : State). record { exponents = drop 1 z.exponents; row = z.row }) q
-
   -- an overlap of later letters b and j with the generator
   passed-snoc : (b : List ℕ) (j : ℕ) → Spells Y.base.prime n 0 b
       → push_word (plain Y (suc n) k) (identity Y (suc n)) (map suc b ++ suc j ∷ 0 ∷ [])
@@ -108,7 +105,7 @@ module _ (Y : RowedPresentation) (rowed : IsRowed Y) (big : 1 < Y.base.prime) (n
       ∙ ap (λ (u : List ℕ). push_word (plain Y (suc n) k) (before 1 (passed Y n k z)) (suc j ∷ u)) (spelled-suc (suc j) side)
       ∙ plain-later_word Y n k 1 (passed Y n k z) (j ∷ spelled (suc j) side)) in
       ap (passed Y n k) (push_word-append (plain Y n (suc k)) (identity Y n) b (j ∷ []))
-      ∙ before_injective 1 (passed Y n k (plain Y n (suc k) z j)) (past Y n k (passed Y n k z) j) (sym left ∙ q ∙ right)
+      ∙ before-injective 1 (passed Y n k (plain Y n (suc k) z j)) (past Y n k (passed Y n k z) j) (sym left ∙ q ∙ right)
       ∙ ap (λ (y : State). past Y n k y j) (passed-spelled b s)
       ∙ sym (push_word-append (past Y n k) (identity Y n) b (j ∷ []))
 
@@ -182,7 +179,7 @@ module _ (Y : RowedPresentation) (rowed : IsRowed Y) (big : 1 < Y.base.prime) (n
       ∙ first-carry Y rowed (omega arith) n k size acts d (passed_times Y n k d g) (omega arith) ds
       ∙ ap (λ (y : State). before 0 (star Y n (suc k) (full_power Y n k) y))
       (sym (passed_times-add Y rowed (omega arith) n k d 1 g) ∙ ap (λ (m : ℕ). passed_times Y n k m g) q) in
-      before_injective 0 (star Y n (suc k) (full_power Y n k) (passed_times Y n k Y.base.prime g)) (star Y n (suc k) g (full_power Y n k))
+      before-injective 0 (star Y n (suc k) (full_power Y n k) (passed_times Y n k Y.base.prime g)) (star Y n (suc k) g (full_power Y n k))
       (sym left
       ∙ ap (λ (y : State). push_word (plain Y (suc n) k) y (replicate Y.base.prime 0)) (sym first)
       ∙ o
@@ -213,7 +210,7 @@ module _ (Y : RowedPresentation) (rowed : IsRowed Y) (big : 1 < Y.base.prime) (n
       ∙ ap (λ (y : State). before 0 (star Y n (suc k) (full_power Y n k) y)) (passed-identity Y rowed (omega arith) n k)
       ∙ ap (before 0) (star-identity_right Y n (suc k) w ws))
       ∙ first-raise Y rowed (omega arith) n k 0 w big ws in
-      before_injective 1 (passed Y n k w) w
+      before-injective 1 (passed Y n k w) w
       (sym left
       ∙ ap (λ (y : State). push_word (plain Y (suc n) k) y (replicate Y.base.prime 0)) (sym first)
       ∙ o

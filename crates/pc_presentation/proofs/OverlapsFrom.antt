@@ -1,18 +1,16 @@
 -- The overlaps of the generators from place k on, and their agreement. They are overlaps of the generators from the place
 -- before, and chains of pushes of later letters there are chains of pushes here.
-use Rattle.std.proofs.Common.{◌≡◌, ℕ, suc, pred, ◌+◌, ◌<◌, List, [], ◌∷◌, ◌++◌, map, replicate, refl, ap, sym, ◌∙◌, subst, arith, drop}
+use Rattle.std.proofs.Common.{◌≡◌, ℕ, suc, pred, ◌+◌, ◌<◌, List, [], ◌∷◌, ◌++◌, map, replicate, refl, ap, sym, ◌∙◌, subst, arith}
 use Rattle.std.proofs.lemmas.List.{map-append}
 use Rattle.pq_base.specs.Presentation.{power_side, commutator_side}
-use Rattle.pc_presentation.specs.Rowed.{RowedPresentation, IsRowed, power_row, commutator_row, row_sum}
-use Rattle.pc_presentation.specs.Collection.{Configuration, State, IsState, identity, spelled, configuration_of, add_row, before, push_word}
-use Rattle.pc_presentation.specs.Collection.Run.{stop, move}
-use Rattle.pc_presentation.proofs.RowLaws.{is_before}
+use Rattle.pc_presentation.specs.Rowed.{RowedPresentation, IsRowed, power_row, commutator_row}
+use Rattle.pc_presentation.specs.Collection.{State, IsState, identity, spelled, configuration_of, add_row, before, push_word}
+use Rattle.pc_presentation.proofs.RowLaws.{is_before, before-injective}
 use Rattle.pc_presentation.proofs.PlainRule.{plain, spelled-suc, map-replicate}
-use Rattle.pc_presentation.proofs.RunLaws.{RunFrom, later}
+use Rattle.pc_presentation.proofs.RunLaws.{RunFrom}
 use Rattle.pc_presentation.proofs.StateProducts.{RelationsAct}
-use Rattle.pc_presentation.proofs.StepPlaces.{StepAt, placed_step, step_of_place}
-use Rattle.pc_presentation.proofs.StepShapes.{step-later}
-use Rattle.pc_presentation.proofs.AnyRun.{any_run, same_behind}
+use Rattle.pc_presentation.proofs.AnyRun.{any_run}
+use Rattle.pc_presentation.proofs.LaterRuns.{push-behind}
 
 -- both ways begin with a; then the one goes on with l, and the other with r and the row t
 pub data OverlapFrom (Y : RowedPresentation) (k : ℕ) : List ℕ → List ℕ → List ℕ → List ℕ → Type 0 where
@@ -63,26 +61,7 @@ overlap-later Y k _ _ _ _ (own_from i b f m) =
     (subst (λ (w : List ℕ). OverlapFrom Y k (suc i ∷ []) (replicate Y.base.prime (suc i)) w (power_row Y b)) (spelled-suc (suc i) (power_side Y.base b))
     (own_from (suc i) b (omega arith) m))
 
--- a run from a word of later letters stays there
-pub record EndsLater (Y : RowedPresentation) (k : ℕ) (c d : Configuration) : Type 0 where
-  pub end : Configuration
-  pub is : d ≡ later end
-  pub run : RunFrom Y (suc k) c end
-
-run-from_later : (Y : RowedPresentation) (k : ℕ) (c : Configuration) {b d : Configuration} → 0 < Y.base.prime → b ≡ later c → RunFrom Y k b d → EndsLater Y k c d
-run-from_later Y k c h e stop = record { end = c; is = e; run = stop }
-run-from_later Y k c h e (move {c = a} {d = b} s m) =
-    let q = placed_step Y k s in
-    let word_is : a.word ≡ map suc c.word = ap (λ (z : Configuration). z.word) e in
-    let row_is : a.row ≡ c.row = ap (λ (z : Configuration). z.row) e in
-    let x = step-later Y k c.word b.word q.added h (subst (λ (w : List ℕ). StepAt Y k w b.word q.added) word_is q.step) in
-    let next : Configuration = record { word = x.word; row = row_sum Y.base.prime c.row q.added } in
-    let b_is : b ≡ later next =
-    ap (λ (w : List ℕ). record { word = w; row = b.row }) x.word_is
-    ∙ ap (λ (z : List ℕ). record { word = map suc x.word; row = z }) (q.row_is ∙ ap (λ (z : List ℕ). row_sum Y.base.prime z q.added) row_is) in
-    let r = run-from_later Y k next h b_is m in
-    record { end = r.end; is = r.is; run = move (step_of_place Y (suc k) c.word x.word c.row q.added x.step) r.run }
-
+-- a push of a later generator is a push on the rest of the state
 pub record PushedLater (Y : RowedPresentation) (n k : ℕ) (s : State) (i : ℕ) (t : State) : Type 0 where
   pub state : State
   pub is : t ≡ before 0 state
@@ -91,24 +70,13 @@ pub record PushedLater (Y : RowedPresentation) (n k : ℕ) (s : State) (i : ℕ)
 pushed-later : (Y : RowedPresentation) (n k : ℕ) (s : State) (i : ℕ) (t : State) → 0 < Y.base.prime → IsPushedFrom Y (suc n) k (before 0 s) (suc i) t → PushedLater Y n k s i t
 pushed-later Y n k s i t h q =
     let b = is_before Y n t q.state in
-    let start : record { word = spelled 0 (0 ∷ s.exponents) ++ suc i ∷ []; row = s.row } ≡ later (record { word = spelled 0 s.exponents ++ i ∷ []; row = s.row }) =
-    ap (λ (w : List ℕ). record { word = w ++ suc i ∷ []; row = s.row }) (spelled-suc 0 s.exponents)
-    ∙ ap (λ (w : List ℕ). record { word = w; row = s.row }) (sym (map-append suc (spelled 0 s.exponents) (i ∷ []))) in
-    let r = run-from_later Y k (record { word = spelled 0 s.exponents ++ i ∷ []; row = s.row }) h start q.run in
-    let end_is : configuration_of (before b.exponent b.rest) ≡ later r.end = ap configuration_of (sym b.same) ∙ r.is in
-    let words : replicate b.exponent 0 ++ map suc (spelled 0 b.rest.exponents) ≡ replicate 0 0 ++ map suc r.end.word =
-    ap (λ (w : List ℕ). replicate b.exponent 0 ++ w) (sym (spelled-suc 0 b.rest.exponents)) ∙ ap (λ (z : Configuration). z.word) end_is in
-    let rows : b.rest.row ≡ r.end.row = ap (λ (z : Configuration). z.row) end_is in
-    let z = same_behind b.exponent 0 (spelled 0 b.rest.exponents) r.end.word words in
-    let whole : r.end ≡ configuration_of b.rest =
-    ap (λ (w : List ℕ). record { word = w; row = r.end.row }) (sym z.1) ∙ ap (λ (x : List ℕ). record { word = spelled 0 b.rest.exponents; row = x }) (sym rows) in
+    let run : RunFrom Y k (record { word = spelled 0 (0 ∷ s.exponents) ++ suc i ∷ []; row = s.row }) (configuration_of (before b.exponent b.rest)) =
+    subst (λ (z : State). RunFrom Y k (record { word = spelled 0 (0 ∷ s.exponents) ++ suc i ∷ []; row = s.row }) (configuration_of z)) b.same q.run in
+    let r = push-behind Y k 0 b.exponent s b.rest i h run in
     record {
       state = b.rest;
-      is = b.same ∙ ap (λ (m : ℕ). before m b.rest) z.0;
-      pushed = record {
-        run = subst (λ (c : Configuration). RunFrom Y (suc k) (record { word = spelled 0 s.exponents ++ i ∷ []; row = s.row }) c) whole r.run;
-        state = b.state;
-      };
+      is = b.same ∙ ap (λ (m : ℕ). before m b.rest) r.0;
+      pushed = record { run = r.1; state = b.state };
     }
 
 pub record ChainLater (Y : RowedPresentation) (n k : ℕ) (s : State) (u : List ℕ) (t : State) : Type 0 where
@@ -130,9 +98,6 @@ chain-later Y n k s (i ∷ u) h e f (then_from {s = s'} {t = t} {i = i'} {w = w}
     let r = chain-later Y n k m.state u h m.is w_is c in
     record { state = r.state; is = r.is; chain = then_from m.pushed r.chain }
 
-before_injective : (s t : State) → before 0 s ≡ before 0 t → s ≡ t
-before_injective s t e = ap (λ (z : State). record { exponents = drop 1 z.exponents; row = z.row }) e
-
 pub agree-later : (Y : RowedPresentation) (n k : ℕ) → 0 < Y.base.prime → AllAgreeFrom Y (suc n) k → AllAgreeFrom Y n (suc k)
 agree-later Y n k h agree a l r t o =
     let g = agree (map suc a) (map suc l) (map suc r) t (overlap-later Y k a l r t o) in
@@ -143,7 +108,7 @@ agree-later Y n k h agree a l r t o =
       right_end = y.state;
       left_chain = x.chain;
       right_chain = y.chain;
-      same = before_injective x.state (add_row Y.base.prime t y.state) (sym x.is ∙ g.same ∙ ap (add_row Y.base.prime t) y.is);
+      same = before-injective 0 x.state (add_row Y.base.prime t y.state) (sym x.is ∙ g.same ∙ ap (add_row Y.base.prime t) y.is);
     }
 
 -- where the relations of the later generators act, chains are the plain rule's

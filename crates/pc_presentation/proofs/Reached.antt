@@ -8,10 +8,11 @@ use Rattle.pq_base.specs.Presentation.{Presentation, IsPresentation, letter, pow
 use Rattle.pq_base.specs.Joined.{Joined, Reaches}
 use Rattle.pq_base.proofs.JoinedLaws.{joined-refl, joined-sym, joined-trans, joined-from_equal, joined-append, joined-append_left, joined-append_right, joined-solve_right, power-joined, letter-swap-joined}
 use Rattle.pc_presentation.specs.Rowed.{RowedPresentation, IsRowed, without_rows}
-use Rattle.pc_presentation.specs.Collection.{Configuration, State, IsState, Step, Replacement, DirectedRun, identity, spelled, letters, push_word}
+use Rattle.pc_presentation.specs.Collection.{Configuration, State, IsState, Step, Replacement, DirectedRun, identity, spelled, letters, push_word, plain_push}
 use Rattle.pc_presentation.specs.Collection.Step.{replace}
 use Rattle.pc_presentation.specs.Collection.Run.{stop, move}
 use Rattle.pc_presentation.specs.Collection.Replacement.{swap, power}
+use Rattle.pc_presentation.specs.Arithmetic.{IsMeaning}
 use Rattle.pc_presentation.proofs.RowLaws.{identity-state}
 use Rattle.pc_presentation.proofs.PlainRule.{plain, plain-state, spelled-zeros}
 use Rattle.pc_presentation.proofs.PlainRuns.{plain_push-run, AllBelow-spelled}
@@ -54,21 +55,28 @@ pub record Settles (Y : RowedPresentation) (w : List ℤ) : Type 0 where
   pub valid : IsState Y Y.base.rank state
   pub joined : Joined Y.base w (state_word state)
 
+-- pushes of any collector are joined in the base to the words one after the other
+module _ (Y : RowedPresentation) (push : State → ℕ → State) (meaning : IsMeaning Y push) where
+  push-joined_base : (s : State) (i : ℕ) → IsState Y Y.base.rank s → i < Y.base.rank → Joined Y.base (state_word s ++ letter i) (state_word (push s i))
+  push-joined_base s i h l =
+      subst (λ (w : List ℤ). Joined Y.base w (state_word (push s i))) (letters-append (spelled 0 s.exponents) (i ∷ [])) (run-joined Y (meaning.pushed s i h l).run)
+
+  pub push_word-joined_base : (u : List ℕ) (s : State) → IsState Y Y.base.rank s → AllBelow Y.base.rank u
+      → Joined Y.base (state_word s ++ letters u) (state_word (push_word push s u))
+  push_word-joined_base [] s h b = joined-from_equal Y.base (append-nil (state_word s))
+  push_word-joined_base (i ∷ u) s h b =
+      joined-trans (joined-from_equal Y.base (sym (append_assoc (state_word s) (letter i) (letters u))))
+      (joined-trans (joined-append_right (letters u) (push-joined_base s i h b.0)) (push_word-joined_base u (push s i) (meaning.pushed s i h b.0).state b.1))
+
 module _ (Y : RowedPresentation) (rowed : IsRowed Y) (positive : 0 < Y.base.prime) where
-  pub push-joined : (s : State) (i : ℕ) → IsState Y Y.base.rank s → i < Y.base.rank
-      → Joined Y.base (state_word s ++ letter i) (state_word (plain Y Y.base.rank 0 s i))
-  push-joined s i h l =
-      subst (λ (w : List ℤ). Joined Y.base w (state_word (plain Y Y.base.rank 0 s i))) (letters-append (spelled 0 s.exponents) (i ∷ []))
-      (run-joined Y (plain_push-run Y rowed positive s i h l))
+  pub plain_meaning : IsMeaning Y (plain_push Y)
+  plain_meaning = record {
+    pushed = λ s i h l. record { run = plain_push-run Y rowed positive s i h l; state = plain-state Y rowed positive Y.base.rank 0 s i h };
+  }
 
   pub push_word-joined : (s : State) (u : List ℕ) → IsState Y Y.base.rank s → AllBelow Y.base.rank u
       → Joined Y.base (state_word s ++ letters u) (state_word (push_word (plain Y Y.base.rank 0) s u))
-  push_word-joined s [] h b = joined-from_equal Y.base (append-nil (state_word s))
-  push_word-joined s (i ∷ u) h b =
-      joined-trans
-      (subst (λ (w : List ℤ). Joined Y.base w (state_word (plain Y Y.base.rank 0 s i) ++ letters u)) (append_assoc (state_word s) (letter i) (letters u))
-      (joined-append_right (letters u) (push-joined s i h b.0)))
-      (push_word-joined (plain Y Y.base.rank 0 s i) u (plain-state Y rowed positive Y.base.rank 0 s i h) b.1)
+  push_word-joined s u h b = push_word-joined_base Y (plain_push Y) plain_meaning u s h b
 
   pub star-joined : (s t : State) → IsState Y Y.base.rank s → IsState Y Y.base.rank t
       → Joined Y.base (state_word s ++ state_word t) (state_word (star Y Y.base.rank 0 s t))
@@ -84,7 +92,7 @@ module _ (Y : RowedPresentation) (rowed : IsRowed Y) (positive : 0 < Y.base.prim
       record {
         state = plain Y Y.base.rank 0 one i;
         valid = plain-state Y rowed positive Y.base.rank 0 one i ones;
-        joined = subst (λ (w : List ℤ). Joined Y.base (w ++ letter i) (state_word (plain Y Y.base.rank 0 (identity Y Y.base.rank) i))) identity-word (push-joined one i ones l);
+        joined = subst (λ (w : List ℤ). Joined Y.base (w ++ letter i) (state_word (plain Y Y.base.rank 0 (identity Y Y.base.rank) i))) identity-word (push_word-joined one (i ∷ []) ones (l, tt));
       }
 
   settles_inverse : (i : ℕ) → i < Y.base.rank → Settles Y (negsuc i ∷ [])

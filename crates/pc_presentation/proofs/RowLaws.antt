@@ -1,6 +1,6 @@
 -- Rows with their sum are a commutative monoid, and sums of rows of residues are rows of residues. Rows added to a
 -- state are added in any order.
-use Rattle.std.proofs.Common.{◌≡◌, ℕ, zero, suc, ◌+◌, ◌%◌, ◌<◌, ◌≤◌, List, [], ◌∷◌, length, get_or, replicate, refl, ap, sym, ◌∙◌, subst, arith, ◌⊎◌, inl, inr, mod-eq_of_lt}
+use Rattle.std.proofs.Common.{drop, ◌≡◌, ℕ, zero, suc, ◌+◌, ◌%◌, ◌<◌, ◌≤◌, List, [], ◌∷◌, length, get_or, replicate, refl, ap, sym, ◌∙◌, subst, arith, ◌⊎◌, inl, inr, mod-eq_of_lt}
 use Rattle.std.proofs.lemmas.List.{length-replicate}
 use Rattle.std.proofs.lemmas.Bool.{cases_lt}
 use Rattle.std.proofs.Math.Nat.{add-mod-mod, mod-add-mod, add-zero}
@@ -132,6 +132,9 @@ before-state Y n e s l h = record {
   exponents = record { count = ap suc h.exponents.count; below = (l, h.exponents.below) };
   row = h.row;
 }
+
+pub before-injective : (e : ℕ) (s t : State) → before e s ≡ before e t → s ≡ t
+before-injective e s t q = ap (λ (z : State). record { exponents = drop 1 z.exponents; row = z.row }) q
 
 -- a state of at least one generator is an exponent before a state
 pub record IsBefore (Y : RowedPresentation) (n : ℕ) (s : State) : Type 0 where

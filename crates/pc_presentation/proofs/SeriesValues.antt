@@ -22,7 +22,7 @@ module _ (P : Presentation) (T : Table) (g : IsGroup T) (f : List ℕ) (h : AllB
       (sym (value-append T g f h (copies u P.prime) w ∙ ap (λ (x : ℕ). times T x (value T f w)) (value-copies T g f h u P.prime)))
       (times_power (value T f u) (value T f w) (c u s) (next-value S R c n))
 
-  level-value : ((r : List ℤ) → IsRelatorOf P r → value T f r ≡ 0) → (k : ℕ) (w : List ℤ) → InSeries P k w → InLevel T P.prime k (value T f w)
+  pub level-value : ((r : List ℤ) → IsRelatorOf P r → value T f r ≡ 0) → (k : ℕ) (w : List ℤ) → InSeries P k w → InLevel T P.prime k (value T f w)
   level-value kills zero w s = value-below T g f h w
   level-value kills (suc k) w s =
       subst (λ (x : ℕ). NextElement T P.prime (InLevel T P.prime k) x) (sym (value-joined T g f h P kills s.joined))

@@ -92,7 +92,8 @@ push_past Y push k s j =
     push_configuration Y push (push s j)
     (record { word = spelled (suc j) (commutator_side Y.base (suc (k + j)) k); row = commutator_row Y (suc (k + j)) k })
 
--- exponent e of the generator at place k raised before h and x, where it becomes the prime and where it does not
+-- exponent e of the generator at place k raised, where it becomes the prime (true) and where it does not: the letters of
+-- the later exponents h are pushed again, passed, on the state of zeros start
 abbrev pub raise : Bool → RowedPresentation → (State → ℕ → State) → ℕ → ℕ → State → List ℕ → State
 raise true Y push k e start h = before 0 (push_word (push_past Y push k) (push_power Y push k start) (spelled 0 h))
 raise false Y push k e start h = before (suc e) (push_word (push_past Y push k) start (spelled 0 h))

@@ -1,17 +1,17 @@
 -- What is proved of collection. Each statement is the contract of a function of `laws`.
 -- From: the theory of polycyclic presentations; that agreeing overlaps make a presentation consistent is due to
 -- M. R. Vaughan-Lee, An aspect of the nilpotent quotient algorithm, 1984.
-use Rattle.std.specs.Prelude.{◌≡◌, ◌<◌, ◌+◌, ◌%◌, ℕ, ℤ, List, ◌++◌, get_or}
+use Rattle.std.specs.Prelude.{◌≡◌, ◌↔◌, ◌<◌, ◌+◌, ◌%◌, ℕ, ℤ, List, ◌++◌, get_or}
 use Rattle.pq_base.specs.SignedWord.{HasLetters}
-use Rattle.pq_base.specs.Table.{Table, IsGroup, AllBelow, value, InLevel}
-use Rattle.pq_base.specs.Presentation.{Presentation, IsPresentation, IsRelatorOf, IsNormal, letter}
+use Rattle.pq_base.specs.Table.{Table, IsGroup, AllBelow, value, InLevel, HasTableClass}
+use Rattle.pq_base.specs.Presentation.{Presentation, IsPresentation, IsRelatorOf, IsNormal, letter, word_from}
 use Rattle.pq_base.specs.Joined.{Joined, Reaches, IsConsistent}
-use Rattle.pq_base.specs.Series.{InSeries}
-use Rattle.pc_presentation.specs.Rowed.{RowedPresentation, IsRowed, without_rows, flat}
-use Rattle.pc_presentation.specs.Collection.{Configuration, State, IsState, configuration_of, signed_word, DirectedRun, add_row, plain_push}
+use Rattle.pq_base.specs.Series.{InSeries, HasClass}
+use Rattle.pc_presentation.specs.Rowed.{RowedPresentation, IsRowed, power_row, commutator_row, row_sum, without_rows, flat}
+use Rattle.pc_presentation.specs.Collection.{Configuration, State, IsState, identity, configuration_of, signed_word, DirectedRun, add_row, push_configuration, plain_push}
 use Rattle.pc_presentation.specs.Arithmetic.{IsMeaning, HasArithmetic}
-use Rattle.pc_presentation.specs.NormalTable.{NormalWordsAreATable}
-use Rattle.pc_presentation.specs.Overlaps.{Overlap, IsOverlap, AgreesPlainly, IsPushed, Agrees}
+use Rattle.pc_presentation.specs.NormalTable.{normal_table, NormalWordsAreATable}
+use Rattle.pc_presentation.specs.Overlaps.{Overlap, IsOverlap, left_way, right_way, AgreesPlainly, IsPushed, Agrees}
 
 -- a push of the plain rule is a directed run to a state
 abbrev pub PlainPushesAreRuns : Type 0
@@ -71,6 +71,19 @@ abbrev pub ValuesCarryTheSeries : Type 0
 ValuesCarryTheSeries = (P : Presentation) (T : Table) (f : List ℕ) → IsGroup T → AllBelow T.size f → ((r : List ℤ) → IsRelatorOf P r → value T f r ≡ 0)
     → (k : ℕ) (w : List ℤ) → InSeries P k w → InLevel T P.prime k (value T f w)
 
+-- where moreover each element of the table is a value, each element of a level is the value of a word of that level, so the
+-- table has the class of the presentation
+abbrev pub IsGeneratedBy : Table → List ℕ → ℕ → Type 0
+IsGeneratedBy T f n = (x : ℕ) → x < T.size → (w : List ℤ) × HasLetters n w × (value T f w ≡ x)
+
+abbrev pub GeneratedTablesHaveTheClass : Type 0
+GeneratedTablesHaveTheClass = (P : Presentation) (T : Table) (f : List ℕ) → IsGroup T → AllBelow T.size f → ((r : List ℤ) → IsRelatorOf P r → value T f r ≡ 0)
+    → IsGeneratedBy T f P.rank → (k : ℕ) → HasClass P k → HasTableClass T P.prime k
+
+-- the class of a consistent presentation is that of its table
+abbrev pub TablesHaveTheClass : Type 0
+TablesHaveTheClass = (P : Presentation) → IsPresentation P → 1 < P.prime → IsConsistent P → (k : ℕ) → HasClass P k ↔ HasTableClass (normal_table P) P.prime k
+
 -- the plain rule is the meaning of a collector
 abbrev pub PlainRuleIsAMeaning : Type 0
 PlainRuleIsAMeaning = (Y : RowedPresentation) → IsRowed Y → 0 < Y.base.prime → IsMeaning Y (plain_push Y)
@@ -78,3 +91,50 @@ PlainRuleIsAMeaning = (Y : RowedPresentation) → IsRowed Y → 0 < Y.base.prime
 -- the arithmetic of each collector, also in presentations that are not consistent
 abbrev pub CollectorsHaveArithmetic : Type 0
 CollectorsHaveArithmetic = (Y : RowedPresentation) → IsRowed Y → 1 < Y.base.prime → (push : State → ℕ → State) → IsMeaning Y push → HasArithmetic Y push
+
+-- in a consistent flat reading all runs that push a generator on a state end alike: each collector is the plain rule
+abbrev pub ConsistentPushesAreUnique : Type 0
+ConsistentPushesAreUnique = (Y : RowedPresentation) → IsRowed Y → 0 < Y.base.prime → IsConsistent (flat Y)
+    → (s t u : State) (i : ℕ) → IsState Y Y.base.rank s → i < Y.base.rank → IsPushed Y s i t → IsPushed Y s i u → t ≡ u
+
+-- over a consistent base any two runs that push a generator on a state reach the same exponents, and rows whose words are
+-- joined
+pub record SameUpToRow (Y : RowedPresentation) (t u : State) : Type 0 where
+  pub exponents : t.exponents ≡ u.exponents
+  pub rows : Joined (flat Y) (word_from Y.base.rank t.row) (word_from Y.base.rank u.row)
+
+abbrev pub PushesOverConsistentBase : Type 0
+PushesOverConsistentBase = (Y : RowedPresentation) → IsRowed Y → 0 < Y.base.prime → IsConsistent Y.base
+    → (s t u : State) (i : ℕ) → IsState Y Y.base.rank s → i < Y.base.rank → IsPushed Y s i t → IsPushed Y s i u → SameUpToRow Y t u
+
+-- in a consistent flat reading each overlap agrees, over each collector
+abbrev pub ConsistentOverlapsAgree : Type 0
+ConsistentOverlapsAgree = (Y : RowedPresentation) → IsRowed Y → 1 < Y.base.prime → IsConsistent (flat Y)
+    → (push : State → ℕ → State) → IsMeaning Y push → (o : Overlap) → IsOverlap Y.base.rank o
+    → push_configuration Y push (identity Y Y.base.rank) (left_way Y o) ≡ push_configuration Y push (identity Y Y.base.rank) (right_way Y o)
+
+-- over a consistent base both ways of each overlap reach the same exponents, and rows whose words are joined
+abbrev pub OverlapsOverConsistentBase : Type 0
+OverlapsOverConsistentBase = (Y : RowedPresentation) → IsRowed Y → 1 < Y.base.prime → IsConsistent Y.base
+    → (push : State → ℕ → State) → IsMeaning Y push → (o : Overlap) → IsOverlap Y.base.rank o
+    → SameUpToRow Y (push_configuration Y push (identity Y Y.base.rank) (left_way Y o)) (push_configuration Y push (identity Y Y.base.rank) (right_way Y o))
+
+-- a map of rows that keeps sums and takes the rows of the relations of Y to those of Z carries pushes and runs
+pub record RowsAreCarried (Y : RowedPresentation) (f : List ℕ → List ℕ) (Z : RowedPresentation) : Type 0 where
+  pub sums : (x y : List ℕ) → f (row_sum Y.base.prime x y) ≡ row_sum Y.base.prime (f x) (f y)
+  pub powers : (i : ℕ) → power_row Z i ≡ f (power_row Y i)
+  pub commutators : (j i : ℕ) → commutator_row Z j i ≡ f (commutator_row Y j i)
+
+abbrev pub with_rows : RowedPresentation → ℕ → List (List ℕ) → List (List (List ℕ)) → RowedPresentation
+with_rows Y q a b = record { base = Y.base; width = q; power_rows = a; commutator_rows = b }
+
+abbrev pub RowMapsCarryPushes : Type 0
+RowMapsCarryPushes = (Y : RowedPresentation) (f : List ℕ → List ℕ) (q : ℕ) (a : List (List ℕ)) (b : List (List (List ℕ)))
+    → RowsAreCarried Y f (with_rows Y q a b) → (s : State) (i : ℕ)
+    → plain_push (with_rows Y q a b) (record { exponents = s.exponents; row = f s.row }) i
+    ≡ record { exponents = (plain_push Y s i).exponents; row = f (plain_push Y s i).row }
+
+abbrev pub RowMapsCarryRuns : Type 0
+RowMapsCarryRuns = (Y : RowedPresentation) (f : List ℕ → List ℕ) (q : ℕ) (a : List (List ℕ)) (b : List (List (List ℕ)))
+    → RowsAreCarried Y f (with_rows Y q a b) → (c d : Configuration) → DirectedRun Y c d
+    → DirectedRun (with_rows Y q a b) (record { word = c.word; row = f c.row }) (record { word = d.word; row = f d.row })

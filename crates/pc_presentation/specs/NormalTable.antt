@@ -1,7 +1,7 @@
 -- The normal words of a presentation as the elements of a table: exponents are numbered as digits to the base p, the
 -- first one the lowest, and the product is that of the plain rule's pushes.
 -- From: the multiplication table of a finite group, on the normal forms of a polycyclic presentation.
-use Rattle.std.specs.Prelude.{◌≡◌, ◌+◌, ◌*◌, ◌/◌, ◌%◌, ◌^◌, ◌↔◌, ℕ, zero, suc, ℤ, List, [], ◌∷◌, replicate}
+use Rattle.std.specs.Prelude.{◌≡◌, ◌<◌, ◌+◌, ◌*◌, ◌/◌, ◌%◌, ◌^◌, ◌↔◌, ℕ, zero, suc, ℤ, List, [], ◌∷◌, replicate}
 use Rattle.pq_base.specs.SignedWord.{HasLetters}
 use Rattle.pq_base.specs.Table.{Table, IsGroup, AllBelow, times, value}
 use Rattle.pq_base.specs.Presentation.{Presentation, IsRelatorOf, IsNormal, normal_word}
@@ -46,6 +46,9 @@ generator_numbers P = list_from (λ (i : ℕ). number_of P.prime (single P.rank 
 pub record NormalWordsAreATable (P : Presentation) : Type 0 where
   pub group : IsGroup (normal_table P)
   pub size : (normal_table P).size ≡ P.prime ^ P.rank
+  -- each element is the number of exactly one normal word
+  pub elements : (a : ℕ) → a < (normal_table P).size → (e : List ℕ) × IsNormal P.prime P.rank e × (number_of P.prime e ≡ a)
+  pub distinct : (e f : List ℕ) → IsNormal P.prime P.rank e → IsNormal P.prime P.rank f → number_of P.prime e ≡ number_of P.prime f → e ≡ f
   pub products : (e f : List ℕ) → IsNormal P.prime P.rank e → IsNormal P.prime P.rank f
       → times (normal_table P) (number_of P.prime e) (number_of P.prime f) ≡ number_of P.prime (product_of P e f)
   pub generators : AllBelow (normal_table P).size (generator_numbers P)

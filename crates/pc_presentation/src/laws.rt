@@ -1,6 +1,6 @@
 //! Laws of collection: each function does nothing, and its clause is a theorem.
 
-ghost use Rattle.pc_presentation.specs.CollectionLaws.{PlainPushesAreRuns, RowsRideAlong, EarlierExponentsAreFinal, DirectedRunsAreJoined, PlainPushesAreJoined, WordsReachNormalWords, AgreeingOverlapsMakeConsistent, AgreeingOverlapsMakeConsistentWithoutRows, PlainAgreementIsAgreement, ConsistentPresentationsHaveTables, ValuesCarryTheSeries, PlainRuleIsAMeaning, CollectorsHaveArithmetic};
+ghost use Rattle.pc_presentation.specs.CollectionLaws.{PlainPushesAreRuns, RowsRideAlong, EarlierExponentsAreFinal, DirectedRunsAreJoined, PlainPushesAreJoined, WordsReachNormalWords, AgreeingOverlapsMakeConsistent, AgreeingOverlapsMakeConsistentWithoutRows, PlainAgreementIsAgreement, ConsistentPresentationsHaveTables, ValuesCarryTheSeries, PlainRuleIsAMeaning, CollectorsHaveArithmetic, ConsistentPushesAreUnique, ConsistentOverlapsAgree, PushesOverConsistentBase, OverlapsOverConsistentBase, RowMapsCarryPushes, RowMapsCarryRuns, GeneratedTablesHaveTheClass, TablesHaveTheClass};
 
 /// A push of the plain rule is a directed run from the word with the letter behind it to a state.
 pub fn plain_pushes_are_runs()
@@ -72,6 +72,17 @@ pub fn values_carry_the_series()
     ensures { ValuesCarryTheSeries }
 {}
 
+/// A group table each element of which is a value of a word has class at most that of the presentation, where each relator
+/// has value 0.
+pub fn generated_tables_have_the_class()
+    ensures { GeneratedTablesHaveTheClass }
+{}
+
+/// The class of a consistent presentation is the class of its table of normal words.
+pub fn tables_have_the_class()
+    ensures { TablesHaveTheClass }
+{}
+
 /// The plain rule is the meaning of a collector: a function each value of which a directed run reaches.
 pub fn plain_rule_is_a_meaning()
     ensures { PlainRuleIsAMeaning }
@@ -81,4 +92,39 @@ pub fn plain_rule_is_a_meaning()
 /// products, inverses, commutators and values are joined to the words of these names.
 pub fn collectors_have_arithmetic()
     ensures { CollectorsHaveArithmetic }
+{}
+
+/// In a consistent flat reading all runs that push a generator on a state end alike, rows included: each collector is the
+/// plain rule.
+pub fn consistent_pushes_are_unique()
+    ensures { ConsistentPushesAreUnique }
+{}
+
+/// In a consistent flat reading both ways of each overlap end alike over each collector: the converse of the consistency
+/// theorem.
+pub fn consistent_overlaps_agree()
+    ensures { ConsistentOverlapsAgree }
+{}
+
+/// Over a consistent presentation, with any rows, all runs that push a generator on a state reach the same exponents, and
+/// rows whose words are joined.
+pub fn pushes_over_consistent_base()
+    ensures { PushesOverConsistentBase }
+{}
+
+/// Over a consistent presentation, with any rows, both ways of each overlap reach the same exponents over each collector,
+/// and rows whose words are joined.
+pub fn overlaps_over_consistent_base()
+    ensures { OverlapsOverConsistentBase }
+{}
+
+/// A map of rows that keeps sums, and takes the rows of relations to those of another presentation with rows, carries
+/// pushes of the plain rule to pushes of the plain rule with the same exponents.
+pub fn row_maps_carry_pushes()
+    ensures { RowMapsCarryPushes }
+{}
+
+/// Such a map carries directed runs to directed runs.
+pub fn row_maps_carry_runs()
+    ensures { RowMapsCarryRuns }
 {}

@@ -11,3 +11,4 @@ pub mod PartsLaws
 pub mod Conditions
 pub mod TailRowLaws
 pub mod TrivialLaws
+pub mod EntryLaws

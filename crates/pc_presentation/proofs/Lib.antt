@@ -4,7 +4,7 @@ pub mod RelationTables
 pub mod StoreLaws
 pub mod PcpLaws
 pub mod PutLaws
-pub mod PlainLaws
+pub mod BlankLaws
 pub mod WordTests
 pub mod BuilderLaws
 pub mod PartsLaws
@@ -48,3 +48,4 @@ pub mod RowMaps
 pub mod ConsistentPushes
 pub mod ConsistentOverlaps
 pub mod LevelWords
+pub mod EntryLaws

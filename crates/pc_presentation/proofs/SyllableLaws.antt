@@ -6,7 +6,7 @@ use Rattle.pq_base.specs.SignedWord.{copies}
 use Rattle.pq_base.specs.Table.{AllBelow}
 use Rattle.pq_base.specs.Presentation.{word_from}
 use Rattle.pc_presentation.specs.declared.syllable.Syllable.{Syllable}
-use Rattle.pc_presentation.specs.Syllable.{syllable, first_exponent, after_first, spread, syllables_of, AreSyllables, letters_of}
+use Rattle.pc_presentation.specs.Syllable.{syllable, first_exponent, after_first, spread, syllables_of, AreSyllables, letters_of, SparseWordsAreExponents}
 
 pub length-spread : (n k : ℕ) (w : List Syllable) → length (spread n k w) ≡ n
 length-spread zero k w = refl
@@ -119,3 +119,12 @@ letters_of-syllables_of k [] = refl
 letters_of-syllables_of k (zero ∷ es) = letters_of-syllables_of (suc k) es
 letters_of-syllables_of k (suc e ∷ es) =
     ap (λ (w : List ℤ). copies (pos (suc k) ∷ []) (suc e) ++ w) (letters_of-syllables_of (suc k) es)
+
+pub sparse_words_are_exponents : SparseWordsAreExponents
+sparse_words_are_exponents = record {
+  spread_undoes = spread-syllables_of;
+  spread_is_undone = syllables_of-spread;
+  sparse = AreSyllables-syllables_of;
+  normal = λ p n m k w h a. record { count = length-spread m k w; below = AllBelow-spread p n m k w h a };
+  same_letters = letters_of-syllables_of;
+}

@@ -1,7 +1,9 @@
 -- Sparse words: lists of syllables with rising generators, which stand for lists of exponents.
 -- Generators count from 1 in syllables, and places from 0: generator k + 1 is at place k.
-use Rattle.std.specs.Prelude.{◌≡◌, ◌<◌, ◌≤◌, ℕ, zero, suc, ℤ, pos, eqb, cond, List, [], ◌∷◌, ◌++◌, All, Bool, true, nat_lt, ◌&&◌, IsTrue}
+use Rattle.std.specs.Prelude.{◌≡◌, ◌<◌, ◌≤◌, ◌+◌, length, ℕ, zero, suc, ℤ, pos, eqb, cond, List, [], ◌∷◌, ◌++◌, All, Bool, true, nat_lt, ◌&&◌, IsTrue}
 use Rattle.pq_base.specs.SignedWord.{copies}
+use Rattle.pq_base.specs.Table.{AllBelow}
+use Rattle.pq_base.specs.Presentation.{IsNormal, word_from}
 use Rattle.pc_presentation.specs.declared.syllable.Syllable.{Syllable}
 
 abbrev pub syllable : ℕ → ℕ → Syllable
@@ -58,3 +60,11 @@ IsNormalWord p w = IsTrue (is_normal_from p 0 w)
 -- the word is generator g alone, counted from 1
 abbrev pub IsGenerator : ℕ → List Syllable → Type 0
 IsGenerator g w = w ≡ syllable g 1 ∷ []
+
+-- sparse words and lists of exponents are two forms of one thing, in which a letter means the same
+pub record SparseWordsAreExponents : Type 0 where
+  pub spread_undoes : (k : ℕ) (e : List ℕ) → spread (length e) k (syllables_of k e) ≡ e
+  pub spread_is_undone : (p n m k : ℕ) (w : List Syllable) → k + m ≡ n → AreSyllables p n k w → syllables_of k (spread m k w) ≡ w
+  pub sparse : (p n k : ℕ) (e : List ℕ) → k + length e ≤ n → AllBelow p e → AreSyllables p n k (syllables_of k e)
+  pub normal : (p n m k : ℕ) (w : List Syllable) → 1 ≤ p → AreSyllables p n k w → IsNormal p m (spread m k w)
+  pub same_letters : (k : ℕ) (e : List ℕ) → letters_of (syllables_of k e) ≡ word_from k e

@@ -1,7 +1,7 @@
 //! Syllables: the words of a presentation are lists of them.
 
 ghost use Rattle.std.specs.Prelude.{◌≡◌, ◌↔◌, IsTrue};
-ghost use Rattle.pc_presentation.specs.Syllable.{AreGenerators, AreLater, is_normal_from, AreSyllables, IsGenerator};
+ghost use Rattle.pc_presentation.specs.Syllable.{AreGenerators, AreLater, is_normal_from, AreSyllables, IsGenerator, SparseWordsAreExponents};
 
 /// A generator, counted from 1, to an exponent.
 #[derive(Clone, Copy, Debug, PartialEq, Eq)]
@@ -54,3 +54,10 @@ pub(crate) fn is_generator(word: &[Syllable], generator: u16) -> bool
         _ => false,
     }
 }
+
+/// Sparse words and lists of exponents are two forms of one thing: the list of a normal word gives that word back, a list of
+/// residues gives a normal word that gives the list back, and both have the same letters.
+#[tactic(auto, using(crate::proofs::SyllableLaws::sparse_words_are_exponents))]
+pub fn sparse_words_are_exponents()
+    ensures { SparseWordsAreExponents }
+{}

@@ -1,5 +1,6 @@
 pub mod RowLaws
 pub mod EntryLaws
+pub mod BelowLaws
 pub mod PlaceByPlace
 pub mod KernelLoops
 pub mod RowStorage

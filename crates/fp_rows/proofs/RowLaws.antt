@@ -149,3 +149,8 @@ scale_row_cancels p j k xs h e =
     ∙ sym (scale_row-mod p (j + k) xs)
     ∙ ap (λ (n : ℕ). scale_row p n xs) e
     ∙ scale_row-zero p xs h
+
+-- no copy of a row adds nothing
+pub add_scaled-zero : (p : ℕ) (xs ys : List ℕ) → 0 < p → AllBelow p xs → length ys ≡ length xs → add_scaled p 0 xs ys ≡ xs
+add_scaled-zero p xs ys h below e =
+    ap (add_rows p xs) (scale_row-zero p ys h ∙ ap zeros e) ∙ add_rows-zeros p xs below

@@ -11,6 +11,7 @@ use Rattle.pq_base.specs.declared.prime.Prime.TheVariants.{P2, P3, P5, P7}
 use Rattle.pq_base.specs.Elementary.{zeros}
 use Rattle.pq_base.proofs.ElementarySides.{zeros-below}
 use Rattle.fp_rows.specs.Row.{at_column, IsColumn, IsZeroRow, IsLastNonzero}
+use Rattle.fp_rows.proofs.BelowLaws.{AllBelow-set}
 use Rattle.fp_rows.proofs.EntryLaws.{IsZeroRow-from_entries}
 
 pub prime_value-pos : (q : Prime) → 0 < prime_value q
@@ -18,6 +19,12 @@ prime_value-pos P2 = omega arith
 prime_value-pos P3 = omega arith
 prime_value-pos P5 = omega arith
 prime_value-pos P7 = omega arith
+
+pub prime_value-two : (q : Prime) → 2 ≤ prime_value q
+prime_value-two P2 = omega arith
+prime_value-two P3 = omega arith
+prime_value-two P5 = omega arith
+prime_value-two P7 = omega arith
 
 -- the invariant of a row
 abbrev pub Holds : Prime → List ℕ → Type 0
@@ -31,18 +38,8 @@ Holds-stored q n new rest long few below =
 pub Holds-zeros : (q : Prime) (n : ℕ) → n ≤ 65535 → Holds q (zeros n)
 Holds-zeros q n few = (zeros-below (prime_value q) n (prime_value-pos q), omega (arith, length-replicate {A = ℕ} n 0))
 
-pub AllBelow-set : (p : ℕ) (xs : List ℕ) (i x : ℕ) → x < p → AllBelow p xs → AllBelow p (set xs i x)
-AllBelow-set p [] i x h below = tt
-AllBelow-set p (y ∷ xs) zero x h below = (h, below.1)
-AllBelow-set p (y ∷ xs) (suc i) x h below = (below.0, AllBelow-set p xs i x h below.1)
-
 pub Holds-set : (q : Prime) (xs : List ℕ) (i x : ℕ) → x < prime_value q → Holds q xs → Holds q (set xs i x)
 Holds-set q xs i x h holds = (AllBelow-set (prime_value q) xs i x h holds.0, omega (arith, length-set xs i x, holds.1))
-
-pub get_or-below_within : (p : ℕ) (xs : List ℕ) (i d : ℕ) → i < length xs → AllBelow p xs → get_or xs i d < p
-get_or-below_within p [] i d h below = absurd (omega arith)
-get_or-below_within p (x ∷ xs) zero d h below = below.0
-get_or-below_within p (x ∷ xs) (suc i) d h below = get_or-below_within p xs i d (omega arith) below.1
 
 -- a row is zero where each column is, and where the test of each entry says so
 pub IsZeroRow-from_columns : (xs : List ℕ) → ((c : ℕ) → 0 < c → at_column xs c ≡ 0) → IsZeroRow xs

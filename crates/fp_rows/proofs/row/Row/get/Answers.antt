@@ -1,7 +1,7 @@
 use Rattle.std.proofs.Common.{◌≡◌, ◌<◌, ◌-◌, length, ap, subst, sym, ℕ, arith}
 use Rattle.pq_base.specs.Prime.{prime_value}
 use Rattle.fp_rows.specs.Row.{PrimeRow}
-use Rattle.fp_rows.proofs.RowStorage.{get_or-below_within}
+use Rattle.fp_rows.proofs.BelowLaws.{get_or-below_within}
 use Rattle.fp_rows.proofs.row.Row.get.Goals as goal
 
 pub returns-clause-residue : goal.returns-clause-residue

@@ -1,0 +1,13 @@
+//! Reduced bases over a prime field. A basis takes rows one by one and keeps a reduced basis of what they span, with the
+//! coefficients of each of its rows over the rows that were added. It says exactly which rows are dependent, and reduces a
+//! row to the one representative modulo the span that is 0 at every pivot.
+#![tactic(auto)]
+
+mod basis;
+mod elimination;
+mod entry;
+mod insertion;
+pub mod laws;
+
+pub use basis::Basis;
+pub use insertion::Insertion;

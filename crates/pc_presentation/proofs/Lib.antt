@@ -1,0 +1,13 @@
+pub mod SyllableLaws
+pub mod RelationNumbers
+pub mod RelationTables
+pub mod StoreLaws
+pub mod PcpLaws
+pub mod PutLaws
+pub mod PlainLaws
+pub mod WordTests
+pub mod BuilderLaws
+pub mod PartsLaws
+pub mod Conditions
+pub mod TailRowLaws
+pub mod TrivialLaws

@@ -1,0 +1,6 @@
+use Rattle.std.proofs.Common.{◌≡◌, ◌≢◌, ℕ, ◌<◌, [], length, get_or}
+use Rattle.pc_presentation.proofs.parts.are_distinct.Given as goal
+
+-- no name so far stands again later
+abbrev pub invariant-loop-i : goal.invariant-loop-i
+invariant-loop-i l = (j k : ℕ) → j < l.i → j < k → k < length l.names → get_or l.names j [] ≢ get_or l.names k []

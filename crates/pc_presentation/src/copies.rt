@@ -1,0 +1,47 @@
+//! Copies of names and of words.
+
+ghost use Rattle.std.specs.Prelude.{◌≡◌, IfOk, replicate, []};
+ghost use Rattle.pc_presentation.specs.Parts.{words_of};
+
+use crate::syllable::Syllable;
+use pq_base::{Name, NoMemory};
+use std::alloc::Global;
+
+/// Equal names.
+pub(crate) fn names_copied(alloc: Global, names: &[Name]) -> Result<Vec<Name>, NoMemory>
+    ensures { IfOk result (λ v. v.items ≡ names.now) }
+{
+    let mut copies = Vec::new(alloc);
+    for name in names {
+        match Name::of(name.bytes()) {
+            Some(copy) => copies.push(copy)?,
+            None => unreachable!(),
+        }
+    }
+    Ok(copies)
+}
+
+/// Equal words.
+pub(crate) fn words_copied(
+    alloc: Global,
+    words: &[Vec<Syllable>],
+) -> Result<Vec<Vec<Syllable>>, NoMemory>
+    ensures { IfOk result (λ v. words_of v.items ≡ words_of words.now) }
+{
+    let mut copies = Vec::new(alloc);
+    for word in words {
+        copies.push(Vec::from_slice(alloc, word.as_slice())?)?;
+    }
+    Ok(copies)
+}
+
+/// So many empty words.
+pub(crate) fn empty_words(alloc: Global, count: usize) -> Result<Vec<Vec<Syllable>>, NoMemory>
+    ensures { IfOk result (λ v. words_of v.items ≡ replicate count []) }
+{
+    let mut words = Vec::new(alloc);
+    for _ in 0..count {
+        words.push(Vec::new(alloc))?;
+    }
+    Ok(words)
+}

@@ -1,0 +1,4 @@
+pub mod LineLaws
+pub mod NextLines
+pub mod SyllableTexts
+pub mod AnswerLines

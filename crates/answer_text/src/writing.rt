@@ -32,7 +32,9 @@ fn push_head(out: &mut Vec<u8>, answer: &Answer) -> Result<(), NoMemory>
     let prime = answer.pcp().prime().value();
     let rank = answer.pcp().rank();
     let class = answer.class();
-    let head = format!(in *out.allocator(); "prime {prime}\nclass {class}\nrank {rank}\norder {prime}^{rank}\n")?;
+    let head = format!(in *out.allocator();
+        "prime {prime}\nclass {class}\nrank {rank}\norder {prime}^{rank}\n"
+    )?;
     out.extend_from_slice(head.as_bytes())?;
     Ok(())
 }
@@ -46,7 +48,14 @@ fn push_generators(out: &mut Vec<u8>, answer: &Answer) -> Result<(), NoMemory>
     let rank = answer.pcp().rank();
     for k in 0..rank {
         let weight = answer.pcp().weight(k + 1);
-        push_generator_line(out, prime, answer.names(), k + 1, weight, answer.definition(k + 1))?;
+        push_generator_line(
+            out,
+            prime,
+            answer.names(),
+            k + 1,
+            weight,
+            answer.definition(k + 1),
+        )?;
     }
     Ok(())
 }
@@ -183,8 +192,9 @@ fn push_commutator_row(out: &mut Vec<u8>, answer: &Answer, j: u16) -> Result<(),
     requires in_range { j ≤ answer.now.presentation.rank }
     ensures { OnOk result (out.new.items ≡ out.old.items ++ text_of_lines (commutator_row_lines j 0 (get_or answer.now.presentation.commutators (j - 1) []))) }
 {
+    let pcp = answer.pcp();
     for k in 0..j - 1 {
-        push_commutator_relation(out, j, k + 1, answer.pcp().word(Relation::Commutator(j, k + 1)))?;
+        push_commutator_relation(out, j, k + 1, pcp.word(Relation::Commutator(j, k + 1)))?;
     }
     Ok(())
 }
@@ -211,6 +221,8 @@ fn push_commutator_relation(
 fn push_images(out: &mut Vec<u8>, answer: &Answer) -> Result<(), NoMemory>
     ensures { OnOk result (out.new.items ≡ out.old.items ++ text_of_lines (image_lines answer.now.names answer.now.images)) }
 {
+    // an answer has at most 32 names, so they can be counted in a u16
+    let _pcp = answer.pcp();
     let mut i = 0u16;
     for name in answer.names() {
         i += 1;

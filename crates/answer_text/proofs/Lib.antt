@@ -5,3 +5,4 @@ pub mod AnswerLines
 pub mod NameTexts
 pub mod NoFloats
 pub mod AnswerMembers
+mod AnswerVectors

@@ -38,7 +38,6 @@ pub mod Consistency
 pub mod CollectionVectors
 pub mod FinalExponents
 pub mod TailLaws
-pub mod SeriesValues
 pub mod DigitLaws
 pub mod NormalProducts
 pub mod NormalTableLaws

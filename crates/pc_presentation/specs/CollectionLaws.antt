@@ -3,10 +3,10 @@
 -- M. R. Vaughan-Lee, An aspect of the nilpotent quotient algorithm, 1984.
 use Rattle.std.specs.Prelude.{◌≡◌, ◌↔◌, ◌<◌, ◌+◌, ◌%◌, ℕ, ℤ, List, ◌++◌, get_or}
 use Rattle.pq_base.specs.SignedWord.{HasLetters}
-use Rattle.pq_base.specs.Table.{Table, IsGroup, AllBelow, value, InLevel, HasTableClass}
-use Rattle.pq_base.specs.Presentation.{Presentation, IsPresentation, IsRelatorOf, IsNormal, letter, word_from}
+use Rattle.pq_base.specs.Table.{AllBelow, HasTableClass}
+use Rattle.pq_base.specs.Presentation.{Presentation, IsPresentation, IsNormal, letter, word_from}
 use Rattle.pq_base.specs.Joined.{Joined, Reaches, IsConsistent}
-use Rattle.pq_base.specs.Series.{InSeries, HasClass}
+use Rattle.pq_base.specs.Series.{HasClass}
 use Rattle.pc_presentation.specs.Rowed.{RowedPresentation, IsRowed, power_row, commutator_row, row_sum, without_rows, flat}
 use Rattle.pc_presentation.specs.Collection.{Configuration, State, IsState, identity, configuration_of, signed_word, DirectedRun, add_row, push_configuration, plain_push}
 use Rattle.pc_presentation.specs.Arithmetic.{IsMeaning, HasArithmetic}
@@ -65,20 +65,6 @@ PlainAgreementIsAgreement = (Y : RowedPresentation) → IsRowed Y → 1 < Y.base
 -- are equal
 abbrev pub ConsistentPresentationsHaveTables : Type 0
 ConsistentPresentationsHaveTables = (P : Presentation) → IsPresentation P → 1 < P.prime → IsConsistent P → NormalWordsAreATable P
-
--- elements of a group table at which each relator has value 0 carry each level of the series to that level of the table
-abbrev pub ValuesCarryTheSeries : Type 0
-ValuesCarryTheSeries = (P : Presentation) (T : Table) (f : List ℕ) → IsGroup T → AllBelow T.size f → ((r : List ℤ) → IsRelatorOf P r → value T f r ≡ 0)
-    → (k : ℕ) (w : List ℤ) → InSeries P k w → InLevel T P.prime k (value T f w)
-
--- where moreover each element of the table is a value, each element of a level is the value of a word of that level, so the
--- table has the class of the presentation
-abbrev pub IsGeneratedBy : Table → List ℕ → ℕ → Type 0
-IsGeneratedBy T f n = (x : ℕ) → x < T.size → (w : List ℤ) × HasLetters n w × (value T f w ≡ x)
-
-abbrev pub GeneratedTablesHaveTheClass : Type 0
-GeneratedTablesHaveTheClass = (P : Presentation) (T : Table) (f : List ℕ) → IsGroup T → AllBelow T.size f → ((r : List ℤ) → IsRelatorOf P r → value T f r ≡ 0)
-    → IsGeneratedBy T f P.rank → (k : ℕ) → HasClass P k → HasTableClass T P.prime k
 
 -- the class of a consistent presentation is that of its table
 abbrev pub TablesHaveTheClass : Type 0

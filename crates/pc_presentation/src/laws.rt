@@ -1,6 +1,6 @@
 //! Laws of collection: each function does nothing, and its clause is a theorem.
 
-ghost use Rattle.pc_presentation.specs.CollectionLaws.{PlainPushesAreRuns, RowsRideAlong, EarlierExponentsAreFinal, DirectedRunsAreJoined, PlainPushesAreJoined, WordsReachNormalWords, AgreeingOverlapsMakeConsistent, AgreeingOverlapsMakeConsistentWithoutRows, PlainAgreementIsAgreement, ConsistentPresentationsHaveTables, ValuesCarryTheSeries, PlainRuleIsAMeaning, CollectorsHaveArithmetic, ConsistentPushesAreUnique, ConsistentOverlapsAgree, PushesOverConsistentBase, OverlapsOverConsistentBase, RowMapsCarryPushes, RowMapsCarryRuns, GeneratedTablesHaveTheClass, TablesHaveTheClass};
+ghost use Rattle.pc_presentation.specs.CollectionLaws.{PlainPushesAreRuns, RowsRideAlong, EarlierExponentsAreFinal, DirectedRunsAreJoined, PlainPushesAreJoined, WordsReachNormalWords, AgreeingOverlapsMakeConsistent, AgreeingOverlapsMakeConsistentWithoutRows, PlainAgreementIsAgreement, ConsistentPresentationsHaveTables, PlainRuleIsAMeaning, CollectorsHaveArithmetic, ConsistentPushesAreUnique, ConsistentOverlapsAgree, PushesOverConsistentBase, OverlapsOverConsistentBase, RowMapsCarryPushes, RowMapsCarryRuns, TablesHaveTheClass};
 
 /// A push of the plain rule is a directed run from the word with the letter behind it to a state.
 pub fn plain_pushes_are_runs()
@@ -63,19 +63,6 @@ pub fn plain_agreement_is_agreement()
 /// their values there are equal.
 pub fn consistent_presentations_have_tables()
     ensures { ConsistentPresentationsHaveTables }
-{}
-
-/// Elements of a group table at which each relator has value 0 carry each word of a level of the series to that level of
-/// the table.
-#[tactic(auto, using(crate::proofs::SeriesValues::values_carry_the_series))]
-pub fn values_carry_the_series()
-    ensures { ValuesCarryTheSeries }
-{}
-
-/// A group table each element of which is a value of a word has class at most that of the presentation, where each relator
-/// has value 0.
-pub fn generated_tables_have_the_class()
-    ensures { GeneratedTablesHaveTheClass }
 {}
 
 /// The class of a consistent presentation is the class of its table of normal words.

@@ -43,3 +43,5 @@ pub mod NormalProducts
 pub mod NormalTableLaws
 pub mod Quotients
 pub mod CollectorArithmetic
+pub mod TailedLaws
+pub mod ElementLaws

@@ -45,3 +45,4 @@ pub mod Quotients
 pub mod CollectorArithmetic
 pub mod TailedLaws
 pub mod ElementLaws
+pub mod ElementConditions

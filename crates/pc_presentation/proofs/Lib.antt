@@ -48,3 +48,6 @@ pub mod ConsistentPushes
 pub mod ConsistentOverlaps
 pub mod LevelWords
 pub mod EntryLaws
+pub mod TailedLaws
+pub mod ElementLaws
+pub mod ElementConditions

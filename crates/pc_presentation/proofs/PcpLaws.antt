@@ -33,7 +33,19 @@ offered-positive p h = elim h [
   ]
 ]
 
-one_less : (i : ℕ) → i ≡ suc i - 1
+pub offered-two : (p : ℕ) → IsOffered p → 2 ≤ p
+offered-two p h = elim h [
+  | inl two ↦ omega arith
+  | inr other ↦ elim other [
+    | inl three ↦ omega arith
+    | inr larger ↦ elim larger [
+      | inl five ↦ omega arith
+      | inr seven ↦ omega arith
+    ]
+  ]
+]
+
+pub one_less : (i : ℕ) → i ≡ suc i - 1
 one_less i = omega arith
 
 side_start-below : (n : ℕ) (r : Relation) → IsRelation n r → side_start r ≤ n

@@ -11,3 +11,4 @@ pub mod Overlaps
 pub mod Arithmetic
 pub mod NormalTable
 pub mod CollectionLaws
+pub mod Tailed

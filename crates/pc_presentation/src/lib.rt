@@ -7,8 +7,10 @@
 
 pub mod answer;
 pub mod builder;
+pub mod collect;
 mod copies;
 pub mod definition;
+pub mod elem;
 pub mod laws;
 mod parts;
 pub mod pcp;
@@ -20,7 +22,9 @@ mod tests;
 
 pub use answer::Answer;
 pub use builder::{PcpBuilder, PcpRefusal};
+pub use collect::Collect;
 pub use definition::Definition;
+pub use elem::Elem;
 pub use pcp::Pcp;
 pub use relation::Relation;
 pub use syllable::Syllable;

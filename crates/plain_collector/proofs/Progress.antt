@@ -1,0 +1,183 @@
+-- How far loops of pushes have come: what is left to push after a step, pushed on the new element, is what was left before
+-- it, pushed on the old one.
+use Rattle.std.proofs.Common.{◌≡◌, ◌≢◌, ℕ, zero, suc, ◌+◌, ◌-◌, ◌<◌, ◌≤◌, Bool, true, false, eqb, List, [], ◌∷◌, ◌++◌, get_or, length, replicate, drop, refl, ap, sym, ◌∙◌, subst, arith, inl, inr}
+use Rattle.std.proofs.Math.ListN.{set, drop_of_length-le}
+use Rattle.std.proofs.lemmas.List.{drop_more, get_or-set_same, get_or-set_other}
+use Rattle.std.proofs.lemmas.Bool.{eq-eqb}
+use Rattle.std.proofs.lemmas.Bool.Decides.{eqb_tells}
+use Rattle.pq_base.specs.Presentation.{IsNormal}
+use Rattle.pc_presentation.specs.declared.syllable.Syllable.{Syllable}
+use Rattle.pc_presentation.specs.declared.relation.Relation.{Relation}
+use Rattle.pc_presentation.specs.declared.relation.Relation.TheVariants.{Power, Commutator}
+use Rattle.pc_presentation.specs.Syllable.{syllables_of, AreGenerators, AreLater}
+use Rattle.pc_presentation.specs.Relation.{IsRelation, side_start}
+use Rattle.pc_presentation.specs.Pcp.{TailedPresentation, IsTailedPresentation, right_side}
+use Rattle.pc_presentation.specs.Rowed.{RowedPresentation, row_sum}
+use Rattle.pc_presentation.specs.Collection.{Configuration, State, IsState, spelled, add_row, push_word, push_configuration, plain_push}
+use Rattle.pc_presentation.specs.Tailed.{Element, rowed_presentation, IsElement, with_state, cleared_after, places_of, side_with_tail}
+use Rattle.pc_presentation.proofs.PushLaws.{push_word-append}
+use Rattle.pc_presentation.proofs.RowLaws.{row_sum-zeros}
+use Rattle.pc_presentation.proofs.TailedLaws.{power_side-with_tail, commutator_side-with_tail, generators-syllables_of, later-syllables_of}
+use Rattle.plain_collector.specs.Steps.{with_exponent, raised_by, raised, passed}
+use Rattle.plain_collector.proofs.PlainSteps.{cleared_state, plain_push-steps}
+
+-- the element after a word
+abbrev pub after : (State → ℕ → State) → Element → List ℕ → Element
+after f e w = with_state e (push_word f e.state w)
+
+pub copies-left : (f : State → ℕ → State) (e e' : Element) (n k i : ℕ) → k < n → e' ≡ with_state e (f e.state i)
+    → after f e' (replicate (n - (k + 1)) i) ≡ after f e (replicate (n - k) i)
+copies-left f e e' n k i h q =
+    let more : suc (n - (k + 1)) ≡ n - k = omega arith in
+    ap (λ (z : Element). after f z (replicate (n - (k + 1)) i)) q ∙ ap (λ (m : ℕ). after f e (replicate m i)) more
+
+pub no_copies-left : (f : State → ℕ → State) (e : Element) (n k i : ℕ) → n ≤ k → after f e (replicate (n - k) i) ≡ e
+no_copies-left f e n k i h =
+    let none : n - k ≡ 0 = omega arith in
+    ap (λ (m : ℕ). after f e (replicate m i)) none
+
+pub spelled-left : (f : State → ℕ → State) (e e' : Element) (j times : ℕ) (xs : List ℕ) → j < length xs → times ≡ get_or xs j 0
+    → e' ≡ after f e (replicate times ((j + 1) - 1))
+    → after f e' (spelled (j + 1) (drop (j + 1) xs)) ≡ after f e (spelled j (drop j xs))
+spelled-left f e e' j times xs h t q =
+    let place : (j + 1) - 1 ≡ j = omega arith in
+    let next : j + 1 ≡ suc j = omega arith in
+    ap (λ (z : Element). after f z (spelled (j + 1) (drop (j + 1) xs))) q
+    ∙ ap (λ (i : ℕ). with_state e (push_word f (push_word f e.state (replicate times i)) (spelled (j + 1) (drop (j + 1) xs)))) place
+    ∙ ap (λ (m : ℕ). with_state e (push_word f (push_word f e.state (replicate m j)) (spelled (j + 1) (drop (j + 1) xs)))) t
+    ∙ ap (λ (k : ℕ). with_state e (push_word f (push_word f e.state (replicate (get_or xs j 0) j)) (spelled k (drop (j + 1) xs)))) next
+    ∙ ap (with_state e) (sym (push_word-append f e.state (replicate (get_or xs j 0) j) (spelled (suc j) (drop (j + 1) xs))))
+    ∙ ap (λ (w : List ℕ). after f e (spelled j w)) (sym (drop_more xs j 0 h))
+
+pub syllables-left : (f : State → ℕ → State) (e e' : Element) (k : ℕ) (w : List Syllable) (d : Syllable) → k < length w
+    → e' ≡ after f e (replicate (get_or w k d).exponent ((get_or w k d).generator - 1))
+    → after f e' (places_of (drop (k + 1) w)) ≡ after f e (places_of (drop k w))
+syllables-left f e e' k w d h q =
+    let s : Syllable = get_or w k d in
+    ap (λ (z : Element). after f z (places_of (drop (k + 1) w))) q
+    ∙ ap (with_state e) (sym (push_word-append f e.state (replicate s.exponent (s.generator - 1)) (places_of (drop (k + 1) w))))
+    ∙ ap (λ (v : List Syllable). after f e (places_of v)) (sym (drop_more w k d h))
+
+pub no_syllables-left : (f : State → ℕ → State) (e : Element) (k : ℕ) (w : List Syllable) → length w ≤ k → after f e (places_of (drop k w)) ≡ e
+no_syllables-left f e k w h = ap (λ (v : List Syllable). after f e (places_of v)) (drop_of_length-le w h)
+
+-- the letters of an element, and its row
+pub side-pushed : (T : TailedPresentation) (e m e' : Element) (c : Configuration) → m ≡ after (plain_push (rowed_presentation T)) e c.word
+    → e' ≡ with_state m (add_row T.presentation.prime c.row m.state)
+    → e' ≡ with_state e (push_configuration (rowed_presentation T) (plain_push (rowed_presentation T)) e.state c)
+side-pushed T e m e' c p q = q ∙ ap (λ (z : Element). with_state z (add_row T.presentation.prime c.row z.state)) p
+
+-- a letter that has passed, and its right side
+pub pass-step : (T : TailedPresentation) → IsTailedPresentation T → (e m e' : Element) (j i : ℕ) → 1 ≤ i → i < j → j ≤ T.presentation.rank
+    → m ≡ with_state e (plain_push (rowed_presentation T) e.state (j - 1))
+    → e' ≡ with_state m (push_configuration (rowed_presentation T) (plain_push (rowed_presentation T)) m.state (side_with_tail T (Commutator j i)))
+    → e' ≡ with_state e (passed (rowed_presentation T) (i - 1) e.state (j - 1))
+pass-step T is e m e' j i one less last p q =
+    let Y : RowedPresentation = rowed_presentation T in
+    let a : j ≡ suc (j - 1) = omega arith in
+    let b : i ≡ suc (i - 1) = omega arith in
+    q
+    ∙ ap (λ (z : Element). with_state z (push_configuration Y (plain_push Y) z.state (side_with_tail T (Commutator j i)))) p
+    ∙ ap (λ (c : Configuration). with_state e (push_configuration Y (plain_push Y) (plain_push Y e.state (j - 1)) c))
+    (ap (λ (k : ℕ). side_with_tail T (Commutator k i)) a ∙ ap (λ (k : ℕ). side_with_tail T (Commutator (suc (j - 1)) k)) b
+    ∙ commutator_side-with_tail T is (j - 1) (i - 1) (omega arith) (omega arith))
+
+-- the exponent raised
+raise-at : (T : TailedPresentation) (e : Element) (i : ℕ) (b : Bool) → eqb (suc (get_or e.state.exponents i 0)) T.presentation.prime ≡ b
+    → with_state e (raised_by b (rowed_presentation T) e.state i) ≡ with_state e (raised (rowed_presentation T) e.state i)
+raise-at T e i b h = ap (λ (c : Bool). with_state e (raised_by c (rowed_presentation T) e.state i)) (sym h)
+
+pub raise-carry : (T : TailedPresentation) → IsTailedPresentation T → (e m e' : Element) (g : ℕ) → 1 ≤ g → g ≤ T.presentation.rank
+    → get_or e.state.exponents (g - 1) 0 + 1 ≡ T.presentation.prime
+    → m ≡ with_state e (with_exponent e.state (g - 1) 0)
+    → e' ≡ with_state m (push_configuration (rowed_presentation T) (plain_push (rowed_presentation T)) m.state (side_with_tail T (Power g)))
+    → e' ≡ with_state e (raised (rowed_presentation T) e.state (g - 1))
+raise-carry T is e m e' g one last c p q =
+    let Y : RowedPresentation = rowed_presentation T in
+    let a : g ≡ suc (g - 1) = omega arith in
+    q
+    ∙ ap (λ (z : Element). with_state z (push_configuration Y (plain_push Y) z.state (side_with_tail T (Power g)))) p
+    ∙ ap (λ (d : Configuration). with_state e (push_configuration Y (plain_push Y) (with_exponent e.state (g - 1) 0) d))
+    (ap (λ (k : ℕ). side_with_tail T (Power k)) a ∙ power_side-with_tail T is (g - 1) (omega arith))
+    ∙ raise-at T e (g - 1) true (eq-eqb (suc (get_or e.state.exponents (g - 1) 0)) T.presentation.prime (omega arith))
+
+pub raise-plain : (T : TailedPresentation) (e e' : Element) (g x : ℕ) → x < T.presentation.prime → x ≡ get_or e.state.exponents (g - 1) 0 + 1
+    → e' ≡ with_state e (with_exponent e.state (g - 1) x)
+    → e' ≡ with_state e (raised (rowed_presentation T) e.state (g - 1))
+raise-plain T e e' g x l h q =
+    let less : suc (get_or e.state.exponents (g - 1) 0) < T.presentation.prime = omega arith in
+    let same : x ≡ suc (get_or e.state.exponents (g - 1) 0) = omega arith in
+    let unequal : eqb (suc (get_or e.state.exponents (g - 1) 0)) T.presentation.prime ≡ false =
+    elim (eqb_tells (suc (get_or e.state.exponents (g - 1) 0)) T.presentation.prime) [
+      | inl t ↦ let s = t.1 in absurd (omega arith)
+      | inr f ↦ f.0
+    ] in
+    q ∙ ap (λ (y : ℕ). with_state e (with_exponent e.state (g - 1) y)) same ∙ raise-at T e (g - 1) false unequal
+
+-- the whole push
+pub push-made : (T : TailedPresentation) (e c r e' : Element) (g j : ℕ) → length e.state.exponents ≡ T.presentation.rank → 1 ≤ g → g ≤ T.presentation.rank
+    → c ≡ with_state e (cleared_state e.state g)
+    → r ≡ with_state c (raised (rowed_presentation T) c.state (g - 1))
+    → after (passed (rowed_presentation T) (g - 1)) e' (spelled j (drop j e.state.exponents))
+    ≡ after (passed (rowed_presentation T) (g - 1)) r (spelled g (drop g e.state.exponents))
+    → length e.state.exponents ≤ j
+    → e' ≡ with_state e (plain_push (rowed_presentation T) e.state (g - 1))
+push-made T e c r e' g j count one last p q w past =
+    let Y : RowedPresentation = rowed_presentation T in
+    let a : suc (g - 1) ≡ g = omega arith in
+    sym (ap (λ (v : List ℕ). after (passed Y (g - 1)) e' (spelled j v)) (drop_of_length-le e.state.exponents past))
+    ∙ w
+    ∙ ap (λ (z : Element). after (passed Y (g - 1)) z (spelled g (drop g e.state.exponents)))
+    (q ∙ ap (λ (z : Element). with_state z (raised Y z.state (g - 1))) p)
+    ∙ ap (with_state e)
+    (sym (plain_push-steps Y e.state (g - 1) count (omega arith)
+    ∙ ap (λ (k : ℕ). push_word (passed Y (g - 1)) (raised Y (cleared_state e.state k) (g - 1)) (spelled k (drop k e.state.exponents))) a))
+
+-- no tail
+pub no_tail-added : (T : TailedPresentation) (e : Element) → IsElement T e → e ≡ with_state e (add_row T.presentation.prime (replicate T.tails 0) e.state)
+no_tail-added T e h =
+    ap (λ (x : List ℕ). with_state e (record { exponents = e.state.exponents; row = x })) (sym (row_sum-zeros T.presentation.prime T.tails e.state.row h.state.row))
+
+-- the generators of a right side
+pub right_side-count : (T : TailedPresentation) → IsTailedPresentation T → (r : Relation) → IsRelation T.presentation.rank r
+    → side_start r + length (right_side T.presentation r) ≡ T.presentation.rank
+right_side-count T is (Power i) h =
+    let c = (is.presentation.power_sides (i - 1) (omega arith)).count in
+    omega arith
+right_side-count T is (Commutator j i) h =
+    let c = (is.presentation.commutator_sides (j - 1) (i - 1) (omega arith) (omega arith)).count in
+    omega arith
+
+pub side-generators : (T : TailedPresentation) → IsTailedPresentation T → (r : Relation) → IsRelation T.presentation.rank r → (w : List Syllable)
+    → w ≡ syllables_of (side_start r) (right_side T.presentation r) → AreGenerators T.presentation.rank w
+side-generators T is r h w q =
+    let count = right_side-count T is r h in
+    subst (AreGenerators T.presentation.rank) (sym q)
+    (generators-syllables_of T.presentation.rank (side_start r) (right_side T.presentation r) (omega arith))
+
+pub side-later : (T : TailedPresentation) (r : Relation) (w : List Syllable) → w ≡ syllables_of (side_start r) (right_side T.presentation r)
+    → AreLater (side_start r) w
+side-later T r w q =
+    subst (AreLater (side_start r)) (sym q) (later-syllables_of (side_start r) (side_start r) (right_side T.presentation r) (omega arith))
+
+-- a copy with an entry more
+pub zero-entries : (n k : ℕ) → get_or (replicate {A = ℕ} n 0) k 0 ≡ 0
+zero-entries zero k = refl
+zero-entries (suc n) zero = refl
+zero-entries (suc n) (suc k) = zero-entries n k
+
+pub copied-more : (copy xs : List ℕ) (k : ℕ) → k < length copy → ((j : ℕ) → j < k → get_or copy j 0 ≡ get_or xs j 0)
+    → (j : ℕ) → j < k + 1 → get_or (set copy k (get_or xs k 0)) j 0 ≡ get_or xs j 0
+copied-more copy xs k l same j h = elim (eqb_tells j k) [
+  | inl t ↦
+      let e : k ≡ j = sym t.1 in
+      subst (λ (i : ℕ). get_or (set copy k (get_or xs k 0)) i 0 ≡ get_or xs i 0) e (get_or-set_same copy k (get_or xs k 0) 0 l)
+  | inr f ↦
+      let ne : j ≢ k = f.1 in
+      get_or-set_other copy k j (get_or xs k 0) 0 ne ∙ same j (omega arith)
+]
+
+pub zeros-behind : (copy : List ℕ) (k x : ℕ) → ((j : ℕ) → k ≤ j → get_or copy j 0 ≡ 0) → (j : ℕ) → k + 1 ≤ j → get_or (set copy k x) j 0 ≡ 0
+zeros-behind copy k x zero_after j h =
+    let ne : j ≢ k = λ e. omega arith in
+    get_or-set_other copy k j x 0 ne ∙ zero_after j (omega arith)

@@ -1,8 +1,8 @@
 -- The conditions of an answer hold of the parts exactly where the tests pass.
-use Rattle.std.proofs.Common.{◌≡◌, ℕ, zero, suc, ◌+◌, ◌-◌, ◌<◌, ◌≤◌, List, [], get_or, length, map, ap, sym, ◌∙◌, subst, arith}
+use Rattle.std.proofs.Common.{◌≡◌, ℕ, zero, suc, ◌+◌, ◌-◌, ◌<◌, ◌≤◌, ℤ, List, [], ◌∷◌, get_or, length, map, refl, ap, sym, ◌∙◌, subst, arith}
 use Rattle.std.proofs.lemmas.List.{get_or-map, length-map}
-use Rattle.pq_base.specs.Presentation.{Presentation, normal_word, power_side, commutator_side}
-use Rattle.pq_base.specs.Answer.{Answer, HasDefinition, image_words}
+use Rattle.pq_base.specs.Presentation.{Presentation, letter, word_from, normal_word, power_side, commutator_side}
+use Rattle.pq_base.specs.Answer.{Answer, IsAnswer, HasDefinition, image_words, definition_at}
 use Rattle.pq_base.specs.Answer.Definition.{image}
 use Rattle.pc_presentation.specs.declared.syllable.Syllable.{Syllable}
 use Rattle.pc_presentation.specs.declared.relation.Relation.TheVariants.{Power as PowerOf, Commutator as CommutatorOf}
@@ -11,7 +11,8 @@ use Rattle.pc_presentation.specs.declared.definition.Definition.TheVariants.{Ima
 use Rattle.pc_presentation.specs.Syllable.{spread, syllables_of, IsGenerator}
 use Rattle.pc_presentation.specs.Pcp.{TailedPresentation, IsTailedPresentation, right_side}
 use Rattle.pc_presentation.specs.Definition.{definition_of}
-use Rattle.pc_presentation.specs.Parts.{answer_of, AreImages, AreParts, AreTested, IsDefined}
+use Rattle.pc_presentation.specs.Parts.{answer_of, AreImages, AreParts, AreTested, IsDefined, AreDefined}
+use Rattle.pc_presentation.proofs.PcpLaws.{offered-positive}
 use Rattle.pc_presentation.proofs.PartsLaws.{AreWeights-tested, are_weights-AreWeights, image_at, AreNormal-spread, IsGenerator-word, word_from-IsGenerator}
 
 less_one : (i : ℕ) → suc i - 1 ≡ i
@@ -112,8 +113,8 @@ module _ (T : TailedPresentation) (names : List (List ℕ)) (definitions : List 
   one_more : (k : ℕ) → k + 1 ≡ suc k
   one_more k = omega arith
 
-  pub AreParts-tested : 1 ≤ T.presentation.prime → IsTailedPresentation T → AreTested T names definitions words → AreParts T names definitions words
-  AreParts-tested positive is t = record {
+  pub AreParts-tested : IsTailedPresentation T → AreTested T names definitions words → AreParts T names definitions words
+  AreParts-tested is t = record {
     no_tails = t.no_tails;
     normal = t.normal;
     answer = record {
@@ -124,7 +125,7 @@ module _ (T : TailedPresentation) (names : List (List ℕ)) (definitions : List 
       name_limit = t.name_limit;
       distinct = t.distinct;
       image_count = length-map words (spread T.presentation.rank 0) ∙ t.image_count;
-      images = AreNormal-spread T.presentation.prime T.presentation.rank words positive t.normal;
+      images = AreNormal-spread T.presentation.prime T.presentation.rank words (offered-positive T.presentation.prime is.prime) t.normal;
       definition_count = length-map definitions definition_of ∙ t.definition_count;
       definitions = λ k h.
           let count : length definitions ≡ T.presentation.rank = t.definition_count in

@@ -4,7 +4,7 @@ pub mod RelationTables
 pub mod StoreLaws
 pub mod PcpLaws
 pub mod PutLaws
-pub mod BlankLaws
+pub mod PlainLaws
 pub mod WordTests
 pub mod BuilderLaws
 pub mod PartsLaws

@@ -1,15 +1,16 @@
 -- What is kept of a presentation is one: entries with sparse words over later generators make a presentation with tails,
 -- whose right sides are those words.
-use Rattle.std.proofs.Common.{◌≡◌, ℕ, suc, ◌+◌, ◌-◌, ◌≤◌, None, List, [], length, refl, ap, sym, ◌∙◌, subst, arith, inl, inr}
+use Rattle.std.proofs.Common.{◌≡◌, ℕ, zero, suc, ◌+◌, ◌-◌, ◌<◌, ◌≤◌, Option, None, List, [], ◌∷◌, length, refl, ap, sym, ◌∙◌, subst, arith, inl, inr}
 use Rattle.pq_base.specs.declared.prime.Prime.{Prime}
 use Rattle.pq_base.specs.declared.prime.Prime.TheVariants.{P2, P3, P5, P7}
 use Rattle.pq_base.specs.Prime.{prime_value, IsOffered}
 use Rattle.pq_base.specs.Table.{AllBelow}
-use Rattle.pq_base.specs.Presentation.{IsLaterSide, power_side, commutator_side}
+use Rattle.pq_base.specs.Presentation.{Presentation, IsPresentation, IsLaterSide, power_side, commutator_side}
+use Rattle.pc_presentation.specs.declared.syllable.Syllable.{Syllable}
 use Rattle.pc_presentation.specs.declared.relation.Relation.{Relation}
 use Rattle.pc_presentation.specs.declared.relation.Relation.TheVariants.{Power, Commutator}
-use Rattle.pc_presentation.specs.Syllable.{spread, syllables_of}
-use Rattle.pc_presentation.specs.Relation.{IsRelation, IsTail, side_start, per_relation}
+use Rattle.pc_presentation.specs.Syllable.{spread, syllables_of, AreSyllables}
+use Rattle.pc_presentation.specs.Relation.{IsRelation, IsTail, side_start, entry_at, per_relation}
 use Rattle.pc_presentation.specs.Store.{Entry, stored_at, AreEntries}
 use Rattle.pc_presentation.specs.Pcp.{TailedPresentation, IsTailedPresentation, HasShape, tailed_presentation, right_side, tail_of}
 use Rattle.pc_presentation.proofs.SyllableLaws.{length-spread, AllBelow-spread, syllables_of-spread}
@@ -89,13 +90,15 @@ module _ (p tails : ℕ) (weights : List ℕ) (entries : List Entry) where
             (AllBelow-spread p n (n - side_start r) (side_start r) (stored_at n entries r).word h (a.words r relation));
       }
 
-  pub tailed_presentation-is : AreEntries p (length weights) tails entries → 1 ≤ p
+  pub tailed_presentation-is : AreEntries p (length weights) tails entries → IsOffered p → length weights ≤ 100
       → IsTailedPresentation (tailed_presentation p weights tails entries)
-  tailed_presentation-is a h =
+  tailed_presentation-is a offered limit =
+      let h : 1 ≤ p = offered-positive p offered in
       let n : ℕ = length weights in
       let T : TailedPresentation = tailed_presentation p weights tails entries in
       let shape : HasShape n (per_relation n (side_of n entries)) = per_relation-shape n (side_of n entries) in
       record {
+        prime = offered;
         presentation = record {
           power_count = shape.power_count;
           power_sides = λ i l.
@@ -108,6 +111,7 @@ module _ (p tails : ℕ) (weights : List ℕ) (entries : List Entry) where
               (ap (λ (k : ℕ). commutator_side T.presentation k i) (one_less j)
               ∙ ap (λ (k : ℕ). commutator_side T.presentation (suc j - 1) k) (one_less i));
         };
+        rank_limit = limit;
         weight_count = refl;
         tail_shape = per_relation-shape n (λ q. (stored_at n entries q).tail);
         tails = λ r l. subst (IsTail tails) (sym (tail_of-tailed r l)) (a.in_range r l);

@@ -6,7 +6,7 @@ use Rattle.pc_presentation.specs.declared.builder.PcpRefusal.{PcpRefusal}
 use Rattle.pc_presentation.specs.declared.builder.PcpRefusal.TheVariants.{OutOfRange, Repeated, NotNormal, NotLater, NoMemory}
 use Rattle.pc_presentation.specs.Syllable.{AreGenerators, IsNormalWord, AreLater}
 use Rattle.pc_presentation.specs.Relation.{IsRelation, IsTail, side_start, PerRelation, entry_at, with_entry, per_relation, relation_number}
-use Rattle.pc_presentation.specs.Pcp.{TailedPresentation, with_relation, blank_presentation}
+use Rattle.pc_presentation.specs.Pcp.{TailedPresentation, with_relation, plain_presentation}
 
 pub record Draft : Type 0 where
   -- relations that weren't given have the empty word and no tail
@@ -15,7 +15,7 @@ pub record Draft : Type 0 where
 
 abbrev pub empty_draft : ℕ → List ℕ → ℕ → Draft
 empty_draft p weights tails = record {
-  built = blank_presentation p weights tails;
+  built = plain_presentation p weights tails;
   given = per_relation (length weights) (λ _. false);
 }
 

@@ -1,7 +1,8 @@
 -- Presentations with tails: weights of the generators, and for each relation one of the tails or none.
 -- A tail stands for a central generator of order p that the relation's right side ends with.
-use Rattle.std.specs.Prelude.{◌≡◌, ◌<◌, ◌-◌, ℕ, zero, suc, List, [], ◌∷◌, get_or, length, map, Option, Some, None, replicate, cond, eqb}
+use Rattle.std.specs.Prelude.{◌≡◌, ◌<◌, ◌≤◌, ◌-◌, ℕ, zero, suc, List, [], ◌∷◌, get_or, length, map, Option, Some, None, replicate, cond, eqb}
 use Rattle.pq_base.specs.Presentation.{Presentation, IsPresentation}
+use Rattle.pq_base.specs.Prime.{IsOffered}
 use Rattle.pq_base.specs.Elementary.{elementary}
 use Rattle.pc_presentation.specs.declared.syllable.Syllable.{Syllable}
 use Rattle.pc_presentation.specs.declared.relation.Relation.{Relation}
@@ -64,8 +65,8 @@ with_relation T r word tail = record {
 }
 
 -- every right side is empty, and no relation has a tail
-abbrev pub blank_presentation : ℕ → List ℕ → ℕ → TailedPresentation
-blank_presentation p weights tails = record {
+abbrev pub plain_presentation : ℕ → List ℕ → ℕ → TailedPresentation
+plain_presentation p weights tails = record {
   presentation = elementary p (length weights);
   weights = weights;
   tails = tails;
@@ -73,7 +74,9 @@ blank_presentation p weights tails = record {
 }
 
 pub record IsTailedPresentation (T : TailedPresentation) : Type 0 where
+  pub prime : IsOffered T.presentation.prime
   pub presentation : IsPresentation T.presentation
+  pub rank_limit : T.presentation.rank ≤ 100
   pub weight_count : length T.weights ≡ T.presentation.rank
   pub tail_shape : HasShape T.presentation.rank T.tail_table
   pub tails : (r : Relation) → IsRelation T.presentation.rank r → IsTail T.tails (tail_of T r)

@@ -74,7 +74,7 @@ impl PcpBuilder {
         ensures { IfOk result (λ b. b ≡ empty_draft (prime_value prime) weights.now tails) }
     {
         Ok(PcpBuilder {
-            pcp: Pcp::blank(alloc, prime, weights, tails)?,
+            pcp: Pcp::plain(alloc, prime, weights, tails)?,
             given: vec![in alloc; false; relation_count(weights.len())]?,
         })
     }

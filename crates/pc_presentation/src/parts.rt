@@ -1,7 +1,6 @@
 //! Whether parts make an answer.
 
 ghost use Rattle.std.specs.Prelude.{◌≡◌, ◌≤◌, ◌<◌, ◌↔◌, IsTrue, length, get_or, ◌-◌, []};
-ghost use Rattle.pq_base.specs.Prime.{IsOffered};
 ghost use Rattle.pq_base.specs.LPresentation.{AreDistinct};
 ghost use Rattle.pc_presentation.specs.Syllable.{IsGenerator};
 ghost use Rattle.pc_presentation.specs.Pcp.{IsTailedPresentation};
@@ -22,7 +21,6 @@ pub(crate) fn are_parts(
     images: &[Vec<Syllable>],
 ) -> bool
     ensures tested { IsTrue result ↔ AreTested pcp.now names.now definitions.now (words_of images.now) }
-    ensures prime { IsOffered pcp.now.presentation.prime }
     ensures presentation { IsTailedPresentation pcp.now }
 {
     let rank = pcp.rank();

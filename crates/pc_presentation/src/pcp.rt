@@ -1,10 +1,10 @@
 //! Presentations, with weights and tails.
 
 ghost use Rattle.std.specs.Prelude.{◌≡◌, ◌≤◌, ◌-◌, ℕ, List, get_or, length, IfOk, OnOk, OnErr};
-ghost use Rattle.pq_base.specs.Prime.{prime_value, IsOffered};
+ghost use Rattle.pq_base.specs.Prime.{prime_value};
 ghost use Rattle.pc_presentation.specs.Syllable.{syllables_of, AreSyllables};
 ghost use Rattle.pc_presentation.specs.Relation.{IsRelation, IsTail, side_start};
-ghost use Rattle.pc_presentation.specs.Pcp.{IsTailedPresentation, right_side, tail_of, with_relation, blank_presentation};
+ghost use Rattle.pc_presentation.specs.Pcp.{IsTailedPresentation, right_side, tail_of, with_relation, plain_presentation};
 
 use crate::relation::{Relation, relation_count};
 use crate::store::Store;
@@ -47,8 +47,6 @@ impl Pcp {
     /// How many generators there are.
     pub fn rank(&self) -> u16
         ensures rank { result ≡ self.now.presentation.rank }
-        ensures limit { result ≤ 100 }
-        ensures prime { IsOffered self.now.presentation.prime }
         ensures presentation { IsTailedPresentation self.now }
     {
         self.weights.len() as u16
@@ -94,14 +92,14 @@ impl Pcp {
     }
 
     /// The presentation with empty right sides and no tails after them.
-    pub(crate) fn blank(
+    pub(crate) fn plain(
         alloc: Global,
         prime: Prime,
         weights: &[u8],
         tails: u16,
     ) -> Result<Pcp, NoMemory>
         requires { length weights.now ≤ 100 }
-        ensures { IfOk result (λ q. q ≡ blank_presentation (prime_value prime) weights.now tails) }
+        ensures { IfOk result (λ q. q ≡ plain_presentation (prime_value prime) weights.now tails) }
     {
         Ok(Pcp {
             prime,

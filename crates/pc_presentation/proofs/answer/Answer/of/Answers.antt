@@ -1,14 +1,13 @@
-use Rattle.std.proofs.Common.{refl}
+use Rattle.std.proofs.Common.{◌≡◌, refl}
 use Rattle.std.proofs.lemmas.Bool.{false≢true}
 use Rattle.pc_presentation.specs.Parts.{words_of, AreParts}
-use Rattle.pc_presentation.proofs.PcpLaws.{offered-positive}
 use Rattle.pc_presentation.proofs.Conditions.{AreParts-tested, AreTested-parts}
 use Rattle.pc_presentation.proofs.answer.Answer.of.Goals as goal
 
 parts : (c : goal.Else-not-are_parts) → AreParts c.args.pcp c.args.names.items c.args.definitions.items (words_of c.args.images.items)
 parts c =
     let tested = rw (c.deref.ensures.value, c.deref-2.ensures.value, c.deref-3.ensures.value) at c.if-not-are_parts.ensures.tested in
-    AreParts-tested c.args.pcp c.args.names.items c.args.definitions.items (words_of c.args.images.items) (offered-positive c.args.pcp.presentation.prime c.are_parts.ensures.prime) c.are_parts.ensures.presentation
+    AreParts-tested c.args.pcp c.args.names.items c.args.definitions.items (words_of c.args.images.items) c.are_parts.ensures.presentation
     (tested.0 refl)
 
 pub returns-then-not-are_parts-clause-none : goal.returns-then-not-are_parts-clause-none

@@ -1,11 +1,8 @@
 use Rattle.pq_base.specs.Prime.{prime_value}
-use Rattle.pc_presentation.proofs.PcpLaws.{prime_value-offered, offered-positive, tailed_presentation-is}
+use Rattle.pc_presentation.proofs.PcpLaws.{prime_value-offered, tailed_presentation-is}
 use Rattle.pc_presentation.proofs.pcp.Pcp.rank.Goals as goal
-
-pub returns-clause-prime : goal.returns-clause-prime
-returns-clause-prime c = rw (← c.self.view_is) (prime_value-offered c.self.inside.prime)
 
 pub returns-clause-presentation : goal.returns-clause-presentation
 returns-clause-presentation c = rw (← c.self.view_is)
     (tailed_presentation-is (prime_value c.self.inside.prime) c.self.inside.tails c.self.inside.weights.items c.self.inside.relations
-    c.self.invariant.1 (offered-positive (prime_value c.self.inside.prime) (prime_value-offered c.self.inside.prime)))
+    c.self.invariant.1 (prime_value-offered c.self.inside.prime) c.self.invariant.0)

@@ -1,11 +1,13 @@
 -- Empty words make the presentation of the elementary abelian group, in which no relation has a tail.
-use Rattle.std.proofs.Common.{◌≡◌, ℕ, zero, suc, ◌+◌, ◌-◌, Option, None, false, List, [], ◌∷◌, get_or, length, replicate, refl, ap, ◌∙◌, arith}
+use Rattle.std.proofs.Common.{◌≡◌, ℕ, zero, suc, ◌+◌, ◌-◌, ◌<◌, ◌≤◌, Option, None, Bool, false, List, [], ◌∷◌, get_or, length, replicate, refl, ap, sym, ◌∙◌, subst, arith}
+use Rattle.std.proofs.lemmas.List.{length-replicate}
 use Rattle.pq_base.specs.Elementary.{zeros, zero_powers, zero_rows}
 use Rattle.pc_presentation.specs.declared.relation.Relation.{Relation}
-use Rattle.pc_presentation.specs.Syllable.{spread}
-use Rattle.pc_presentation.specs.Relation.{side_start, PerRelation, tabulate, per_relation, relation_number}
-use Rattle.pc_presentation.specs.Store.{Entry, blank, stored_at}
-use Rattle.pc_presentation.specs.Pcp.{tailed_presentation, blank_presentation}
+use Rattle.pc_presentation.specs.declared.relation.Relation.TheVariants.{Power, Commutator}
+use Rattle.pc_presentation.specs.Syllable.{spread, AreSyllables}
+use Rattle.pc_presentation.specs.Relation.{IsRelation, IsTail, side_start, PerRelation, tabulate, per_relation, relation_count, relation_number}
+use Rattle.pc_presentation.specs.Store.{Entry, blank, stored_at, AreEntries}
+use Rattle.pc_presentation.specs.Pcp.{TailedPresentation, tailed_presentation, plain_presentation}
 use Rattle.pc_presentation.proofs.RelationTables.{tabulate_agree, per_relation_agree}
 use Rattle.pc_presentation.proofs.PcpLaws.{side_of}
 use Rattle.pc_presentation.proofs.PutLaws.{from_tables}
@@ -60,8 +62,8 @@ zero_sides-per_relation n =
 stored_blank : (m n : ℕ) (r : Relation) → stored_at n (replicate m blank) r ≡ blank
 stored_blank m n r = get_or-replicate_same m (relation_number n r) blank
 
-pub blank-tailed : (p tails m : ℕ) (weights : List ℕ) → tailed_presentation p weights tails (replicate m blank) ≡ blank_presentation p weights tails
-blank-tailed p tails m weights =
+pub plain-tailed : (p tails m : ℕ) (weights : List ℕ) → tailed_presentation p weights tails (replicate m blank) ≡ plain_presentation p weights tails
+plain-tailed p tails m weights =
     let n : ℕ = length weights in
     let some : PerRelation (Option ℕ) = per_relation n (λ q. (stored_at n (replicate m blank) q).tail) in
     ap (λ (s : PerRelation (List ℕ)). from_tables p weights tails s some)
@@ -75,9 +77,9 @@ pub no_flags : (n m : ℕ) → per_relation n (λ r. get_or (replicate m false) 
 no_flags n m = per_relation_agree n (λ r. get_or (replicate m false) (relation_number n r) false) (λ _. false)
     (λ r h. get_or-replicate_same m (relation_number n r) false)
 
-pub blank-made : (p tails m : ℕ) (weights copied : List ℕ) (entries : List Entry) → copied ≡ weights → entries ≡ replicate m blank
-    → tailed_presentation p copied tails entries ≡ blank_presentation p weights tails
-blank-made p tails m weights copied entries e f =
+pub plain-made : (p tails m : ℕ) (weights copied : List ℕ) (entries : List Entry) → copied ≡ weights → entries ≡ replicate m blank
+    → tailed_presentation p copied tails entries ≡ plain_presentation p weights tails
+plain-made p tails m weights copied entries e f =
     ap (λ (ws : List ℕ). tailed_presentation p ws tails entries) e
     ∙ ap (tailed_presentation p weights tails) f
-    ∙ blank-tailed p tails m weights
+    ∙ plain-tailed p tails m weights

@@ -3,7 +3,7 @@
 use Rattle.std.proofs.Common.{◌≡◌, ℕ, zero, suc, ◌+◌, ◌-◌, ◌<◌, ◌≤◌, Option, List, [], ◌∷◌, ◌++◌, get_or, length, replicate, take, refl, ap, sym, ◌∙◌, subst, arith}
 use Rattle.std.proofs.Math.ListN.{set}
 use Rattle.std.proofs.lemmas.List.{length-set, length-append, length-replicate}
-use Rattle.fp_rows.proofs.RowStorage.{AllBelow-set}
+use Rattle.fp_rows.proofs.BelowLaws.{AllBelow-set}
 use Rattle.pq_base.specs.Table.{AllBelow}
 use Rattle.pq_base.specs.Presentation.{IsNormal}
 use Rattle.pq_base.proofs.TableLaws.{get_or-below}

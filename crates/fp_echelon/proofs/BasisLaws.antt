@@ -28,9 +28,9 @@ module _ (B : Echelon) (basis : IsBasis B) where
   basis_spans x =
       let two = basis.prime in (
         λ s. InSpan-trans B.prime B.width (rows_of B.rows) B.added x (omega arith)
-        (AreRows-reduced B.prime B.width B.rows basis.reduced) basis.spanned s,
+            (AreRows-reduced B.prime B.width B.rows basis.reduced) basis.spanned s,
         λ s. InSpan-trans B.prime B.width B.added (rows_of B.rows) x (omega arith) basis.added
-        (EachInSpan-sums B.prime B.width B.added B.rows basis.sums) s,
+            (EachInSpan-sums B.prime B.width B.added B.rows basis.sums) s,
       )
 
   module _ (x : List ℕ) (row : IsRow B.prime B.width x) where

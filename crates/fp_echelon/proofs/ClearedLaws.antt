@@ -30,10 +30,10 @@ module _ (p width : ℕ) (some : 1 < p) where
           column = record { first = at_least; last = omega arith };
           nonzero = λ none. omega arith;
           zero_after = λ d after.
-            entry d
-            ∙ ap (λ (n : ℕ). (k * n) % p) (last.zero_after d after)
-            ∙ ap (λ (n : ℕ). n % p) (mul-zero k)
-            ∙ mod-eq_of_lt (omega arith);
+              entry d
+              ∙ ap (λ (n : ℕ). (k * n) % p) (last.zero_after d after)
+              ∙ ap (λ (n : ℕ). n % p) (mul-zero k)
+              ∙ mod-eq_of_lt (omega arith);
         };
         one = one';
       }
@@ -42,9 +42,9 @@ module _ (p width : ℕ) (some : 1 < p) where
   ZeroAtPivots-scale_row k x [] none = tt
   ZeroAtPivots-scale_row k x (b ∷ bs) none = (
     get_or-scale_row p k x (b.pivot - 1) (omega arith)
-    ∙ ap (λ (n : ℕ). (k * n) % p) none.0
-    ∙ ap (λ (n : ℕ). n % p) (mul-zero k)
-    ∙ mod-eq_of_lt (omega arith),
+        ∙ ap (λ (n : ℕ). (k * n) % p) none.0
+        ∙ ap (λ (n : ℕ). n % p) (mul-zero k)
+        ∙ mod-eq_of_lt (omega arith),
     ZeroAtPivots-scale_row k x bs none.1,
   )
 

@@ -34,24 +34,30 @@ zero_or_last [] = inl tt
 zero_or_last (x ∷ xs) =
     ⊎_elim
     (λ none. ⊎_elim (λ e. inl (e, none))
-      (λ ne. inr (1, record {
+    (λ ne. inr (
+      1,
+      record {
         column = record { first = omega arith; last = omega arith };
         nonzero = ne;
         zero_after = λ d after.
-          let same : suc (d - 1) ≡ d = omega arith in
-          ap (at_column (x ∷ xs)) (sym same) ∙ at_column-cons x xs (d - 1) (omega arith) ∙ IsZeroRow-column xs (d - 1) none;
-      })) (cases_eq x 0))
+            let same : suc (d - 1) ≡ d = omega arith in
+            ap (at_column (x ∷ xs)) (sym same) ∙ at_column-cons x xs (d - 1) (omega arith) ∙ IsZeroRow-column xs (d - 1) none;
+      },
+    )) (cases_eq x 0))
     (λ last.
-      let column = last.1.column in
-      let least = column.first in
-      let most = column.last in
-      inr (suc last.0, record {
+    let column = last.1.column in
+    let least = column.first in
+    let most = column.last in
+    inr (
+      suc last.0,
+      record {
         column = record { first = omega arith; last = omega arith };
         nonzero = λ e. last.1.nonzero (sym (at_column-cons x xs last.0 least) ∙ e);
         zero_after = λ d after.
-          let same : suc (d - 1) ≡ d = omega arith in
-          ap (at_column (x ∷ xs)) (sym same) ∙ at_column-cons x xs (d - 1) (omega arith) ∙ last.1.zero_after (d - 1) (omega arith);
-      }))
+            let same : suc (d - 1) ≡ d = omega arith in
+            ap (at_column (x ∷ xs)) (sym same) ∙ at_column-cons x xs (d - 1) (omega arith) ∙ last.1.zero_after (d - 1) (omega arith);
+      },
+    ))
     (zero_or_last xs)
 
 -- a basis of the span of some rows, made of some of them
@@ -80,33 +86,33 @@ module _ (p width : ℕ) (some : 2 ≤ p) (inverses : HasInverses p) where
       let more = EachInSpan-cons p width x rows M.added (omega arith) are.0 are.1 M.within in
       ⊎_elim
       (λ none.
-        let same = IsZeroRow-is_zeros (reduce_by p M.made x) none ∙ ap zeros y_row.count in
-        record {
-          added = M.added;
-          made = M.made;
-          basis = M.basis;
-          within = more;
-          whole = ((basis_spans B M.basis x).0 (dependent_from_zero B M.basis x are.0 same), M.whole);
-        })
+      let same = IsZeroRow-is_zeros (reduce_by p M.made x) none ∙ ap zeros y_row.count in
+      record {
+        added = M.added;
+        made = M.made;
+        basis = M.basis;
+        within = more;
+        whole = ((basis_spans B M.basis x).0 (dependent_from_zero B M.basis x are.0 same), M.whole);
+      })
       (λ last.
-        let c : ℕ = last.0 in
-        let y : ℕ = at_column (reduce_by p M.made x) c in
-        let low = at_column-below p (reduce_by p M.made x) c (omega arith) y_row.below in
-        let k = inverses y (pos_of_ne-zero last.1.nonzero) low in
-        let after : List BasisRow = inserted p c k.0 x (length M.added) M.made in
-        let basis = IsBasis-inserted B M.basis x are.0 c k.0 0 last.1 k.1 in
-        let are_after = AreRows-reduced p width after basis.reduced in
-        record {
-          added = M.added ++ x ∷ [];
-          made = after;
-          basis = basis;
-          within = EachInSpan-push p width (x ∷ rows) M.added x more (InSpan-head p width x rows some are.0 are.1);
-          whole = (
-            inserted_in_span p width some M.made x (length M.added) c k.0 reduced are.0 last.1 k.1,
-            EachInSpan-trans p width (rows_of after) (rows_of M.made) rows (omega arith) are_after
-            (old_in_span p width some M.made x (length M.added) c k.0 reduced are.0 last.1 k.1) M.whole,
-          );
-        })
+      let c : ℕ = last.0 in
+      let y : ℕ = at_column (reduce_by p M.made x) c in
+      let low = at_column-below p (reduce_by p M.made x) c (omega arith) y_row.below in
+      let k = inverses y (pos_of_ne-zero last.1.nonzero) low in
+      let after : List BasisRow = inserted p c k.0 x (length M.added) M.made in
+      let basis = IsBasis-inserted B M.basis x are.0 c k.0 0 last.1 k.1 in
+      let are_after = AreRows-reduced p width after basis.reduced in
+      record {
+        added = M.added ++ x ∷ [];
+        made = after;
+        basis = basis;
+        within = EachInSpan-push p width (x ∷ rows) M.added x more (InSpan-head p width x rows some are.0 are.1);
+        whole = (
+          inserted_in_span p width some M.made x (length M.added) c k.0 reduced are.0 last.1 k.1,
+          EachInSpan-trans p width (rows_of after) (rows_of M.made) rows (omega arith) are_after
+              (old_in_span p width some M.made x (length M.added) c k.0 reduced are.0 last.1 k.1) M.whole,
+        );
+      })
       (zero_or_last (reduce_by p M.made x))
 
   pub reduced_basis_of : (rows : List (List ℕ)) → AreRows p width rows → ReducedBasisOf p width rows

@@ -13,8 +13,8 @@ IsSum-at_pivot p width added c (b ∷ bs) sums h =
     ⊎_elim
     (λ e. subst (λ (a : BasisRow). IsSum p width added a) (sym (at_pivot-head c b bs e)) sums.0)
     (λ ne.
-      subst (λ (a : BasisRow). IsSum p width added a) (sym (at_pivot-tail c b bs ne))
-      (IsSum-at_pivot p width added c bs sums.1 (⊎_elim (λ e. absurd (ne e)) (λ more. more) h)))
+    subst (λ (a : BasisRow). IsSum p width added a) (sym (at_pivot-tail c b bs ne))
+    (IsSum-at_pivot p width added c bs sums.1 (⊎_elim (λ e. absurd (ne e)) (λ more. more) h)))
     (cases_eq b.pivot c)
 
 module _ (B : Echelon) (basis : IsBasis B) (c : ℕ) (pivot : IsPivot c B.rows) where

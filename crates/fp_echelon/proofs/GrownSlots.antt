@@ -104,10 +104,10 @@ module _ (p width : ℕ) (some : 0 < p) where
           let room = held.room in
           record {
             are_slots = subst (λ (l : List Slot). AreSlots p width (rank + spare) l) (sym grown.slots)
-            (AreSlots-append p width (rank + spare) (grown_front (rank + rows) grown.grown old) (replicate grown.more (new_slot p width (rank + rows)))
-            (AreSlots-grown_front (rank + spare) (rank + rows) grown.grown old held.are_slots)
-            (AreSlots-fewer p width (rank + rows) (rank + spare) (replicate grown.more (new_slot p width (rank + rows))) (omega arith)
-            (AreSlots-new (rank + rows) grown.more)));
+                (AreSlots-append p width (rank + spare) (grown_front (rank + rows) grown.grown old) (replicate grown.more (new_slot p width (rank + rows)))
+                (AreSlots-grown_front (rank + spare) (rank + rows) grown.grown old held.are_slots)
+                (AreSlots-fewer p width (rank + rows) (rank + spare) (replicate grown.more (new_slot p width (rank + rows))) (omega arith)
+                (AreSlots-new (rank + rows) grown.more)));
             room = omega (arith, Alike-length rank old new grown_alike);
             basis = subst (λ (B : Echelon). IsBasis B) (sym grown_same) held.basis;
           }
@@ -140,8 +140,8 @@ module _ (p width : ℕ) (some : 0 < p) where
           } in
           record {
             are_slots = subst (λ (l : List Slot). AreSlots p width (rank + rows) l) (sym whole.slots)
-            (AreSlots-append p width (rank + rows) (map (grown_slot (rank + rows)) old) (replicate whole.more (new_slot p width (rank + rows)))
-            (AreSlots-room (rank + spare) (rank + rows) old held.are_slots) (AreSlots-new (rank + rows) whole.more));
+                (AreSlots-append p width (rank + rows) (map (grown_slot (rank + rows)) old) (replicate whole.more (new_slot p width (rank + rows)))
+                (AreSlots-room (rank + spare) (rank + rows) old held.are_slots) (AreSlots-new (rank + rows) whole.more));
             room = whole.enough;
             basis = subst (λ (B : Echelon). IsBasis B) (sym whole_same) basis';
           }

@@ -66,7 +66,7 @@ module _ (p width n spare : ℕ) (slots new : List Slot) (x : List ℕ) (row : I
         let room = held.room in
         record {
           are_slots = subst (λ (l : List Slot). AreSlots p width (n + suc spare) l) (sym left.slots)
-          (AreSlots-reduced p width n some slots fits x row enough (n + suc spare) (omega arith) held.are_slots);
+              (AreSlots-reduced p width n some slots fits x row enough (n + suc spare) (omega arith) held.are_slots);
           room = omega (arith, ap (λ (l : List Slot). length l) left.slots, length-reduced p width n some slots fits x row);
           basis = subst (λ (B : Echelon). IsBasis B) (sym left_same) held.basis;
         }
@@ -116,8 +116,8 @@ module _ (p width n spare : ℕ) (slots new : List Slot) (x : List ℕ) (row : I
         let same : n + suc spare ≡ suc n + spare = omega arith in
         record {
           are_slots = subst (λ (l : List Slot). AreSlots p width (suc n + spare) l) (sym joined.slots)
-          (AreSlots-joined p width n some slots fits x row enough c joined.factor (suc n + spare) (omega arith)
-          (subst (λ (m : ℕ). AreSlots p width m slots) same held.are_slots));
+              (AreSlots-joined p width n some slots fits x row enough c joined.factor (suc n + spare) (omega arith)
+              (subst (λ (m : ℕ). AreSlots p width m slots) same held.are_slots));
           room = omega (arith, ap (λ (l : List Slot). length l) joined.slots, length-joined p width n some slots fits x row enough c joined.factor);
           basis = joined_basis;
         }

@@ -90,10 +90,9 @@ module _ (p width n : ℕ) (some : 1 < p) (slots : List Slot) (fits : n < length
     pub AreSlots-reduced : (m : ℕ) → suc n ≤ m → AreSlots p width m slots → AreSlots p width m (reduced_slots n x slots)
     AreSlots-reduced m h are' =
         AreSlots-append p width m older (fresh ∷ drop (suc n) slots)
-        (AreSlots-placed p width (omega arith) n m (take n slots) (AreSlots-take p width m n slots are'))
-        (
+        (AreSlots-placed p width (omega arith) n m (take n slots) (AreSlots-take p width m n slots are')) (
           IsSlot-cleared_by_each p width (omega arith) (suc n) m older (started_slot n x (get_or slots n no_slot)) older_are begun
-          (IsSlot-started_slot p width (omega arith) n m x (get_or slots n no_slot) some row here (AreSlots-at p width m slots n no_slot fits are')),
+              (IsSlot-started_slot p width (omega arith) n m x (get_or slots n no_slot) some row here (AreSlots-at p width m slots n no_slot fits are')),
           AreSlots-drop p width m (suc n) slots are',
         )
 
@@ -175,8 +174,7 @@ module _ (p width n : ℕ) (some : 1 < p) (slots : List Slot) (fits : n < length
           subst (λ (l : List Slot). AreSlots p width m l) (sym joined-is)
           (AreSlots-append p width m cleared_older (last_slot ∷ drop (suc n) slots)
           (AreSlots-cleared p width (omega arith) (suc n) m last_slot older last_is older_are
-          (AreSlots-placed p width (omega arith) n m (take n slots) (AreSlots-take p width m n slots are')))
-          (
+          (AreSlots-placed p width (omega arith) n m (take n slots) (AreSlots-take p width m n slots are'))) (
             IsSlot-scaled_slot p width (omega arith) (suc n) m c k fresh fresh_is fresh_is',
             AreSlots-drop p width m (suc n) slots are',
           ))

@@ -81,8 +81,8 @@ module _ (p width : ℕ) (some : 1 < p) where
   uncleared R a (b ∷ bs) are row reduced s each =
       let row' = IsRow-cleared p width some a.row b.row row reduced.0.fits a.pivot in (
         InSpan-shifted p width some R are b.row (clear_by p a b).row reduced.0.fits row'
-        (InSpan-turned p width some R are (clear_by p a b).row b.row row' reduced.0.fits
-        (InSpan-cleared p width some a.row b.row row reduced.0.fits a.pivot R s)) each.0,
+            (InSpan-turned p width some R are (clear_by p a b).row b.row row' reduced.0.fits
+            (InSpan-cleared p width some a.row b.row row reduced.0.fits a.pivot R s)) each.0,
         uncleared R a bs are row reduced.2 s each.1,
       )
 

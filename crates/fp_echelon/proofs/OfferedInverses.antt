@@ -36,5 +36,5 @@ pub HasInverses-offered : (p : ℕ) → IsOffered p → HasInverses p
 HasInverses-offered p offered =
     ⊎_elim (λ two. subst HasInverses (sym two) inverses_of_two)
     (λ odd. ⊎_elim (λ three. subst HasInverses (sym three) inverses_of_three)
-      (λ more. ⊎_elim (λ five. subst HasInverses (sym five) inverses_of_five)
-        (λ seven. subst HasInverses (sym seven) inverses_of_seven) more) odd) offered
+    (λ more. ⊎_elim (λ five. subst HasInverses (sym five) inverses_of_five)
+    (λ seven. subst HasInverses (sym seven) inverses_of_seven) more) odd) offered

@@ -84,12 +84,11 @@ module _ (p width : ℕ) (some : 1 < p) where
       → ZeroAtPivots x bs → ZeroAtPivots y bs → ZeroAtPivots (difference p x y) bs
   ZeroAtPivots-difference [] x y row row' none none' = tt
   ZeroAtPivots-difference (b ∷ bs) x y row row' none none' =
-      let nothing : 0 + (p - 1) * 0 ≡ 0 = omega arith in
-      (
+      let nothing : 0 + (p - 1) * 0 ≡ 0 = omega arith in (
         at_column-add_scaled p (p - 1) x y b.pivot (omega arith) (row.count ∙ sym row'.count)
-        ∙ ap₂ (λ (m n : ℕ). (m + (p - 1) * n) % p) none.0 none'.0
-        ∙ ap (λ (n : ℕ). n % p) nothing
-        ∙ mod-eq_of_lt (omega arith),
+            ∙ ap₂ (λ (m n : ℕ). (m + (p - 1) * n) % p) none.0 none'.0
+            ∙ ap (λ (n : ℕ). n % p) nothing
+            ∙ mod-eq_of_lt (omega arith),
         ZeroAtPivots-difference bs x y row row' none.1 none'.1,
       )
 

@@ -31,8 +31,8 @@ module _ (p width : ℕ) (some : 1 < p) where
   ZeroAtPivots-add_rows x y [] row row' none none' = tt
   ZeroAtPivots-add_rows x y (b ∷ bs) row row' none none' = (
     get_or-add_rows p x y (b.pivot - 1) (omega arith) (row.count ∙ sym row'.count)
-    ∙ ap₂ (λ (m n : ℕ). (m + n) % p) none.0 none'.0
-    ∙ mod-eq_of_lt (omega arith),
+        ∙ ap₂ (λ (m n : ℕ). (m + n) % p) none.0 none'.0
+        ∙ mod-eq_of_lt (omega arith),
     ZeroAtPivots-add_rows x y bs row row' none.1 none'.1,
   )
 
@@ -53,7 +53,7 @@ module _ (p width : ℕ) (some : 1 < p) where
         fits = IsRow-add_rows p width (reduce_by p bs x) (reduce_by p bs y) (omega arith) r.fits s.fits;
         zero = ZeroAtPivots-add_rows (reduce_by p bs x) (reduce_by p bs y) bs r.fits s.fits r.zero s.zero;
         span = subst (λ (l : List ℕ). InSpan p width (rows_of bs) l) (sym (difference-add_rows_swap (reduce_by p bs x) (reduce_by p bs y) x y))
-        (InSpan-add_rows p width (rows_of bs) (difference p (reduce_by p bs x) x) (difference p (reduce_by p bs y) y) (omega arith) r.span s.span);
+            (InSpan-add_rows p width (rows_of bs) (difference p (reduce_by p bs x) x) (difference p (reduce_by p bs y) y) (omega arith) r.span s.span);
       }))
 
   difference-scale_row : (k : ℕ) (a x : List ℕ) → difference p (scale_row p k a) (scale_row p k x) ≡ scale_row p k (difference p a x)
@@ -72,7 +72,7 @@ module _ (p width : ℕ) (some : 1 < p) where
         fits = IsRow-scale_row p width k (reduce_by p bs x) (omega arith) r.fits;
         zero = ZeroAtPivots-scale_row p width some k (reduce_by p bs x) bs r.zero;
         span = subst (λ (l : List ℕ). InSpan p width (rows_of bs) l) (sym (difference-scale_row k (reduce_by p bs x) x))
-        (InSpan-scale_row p width k (rows_of bs) (difference p (reduce_by p bs x) x) (omega arith) r.span);
+            (InSpan-scale_row p width k (rows_of bs) (difference p (reduce_by p bs x) x) (omega arith) r.span);
       }))
 
   -- so the reduction of a unit row has no entry after its place
@@ -84,12 +84,12 @@ module _ (p width : ℕ) (some : 1 < p) where
       let k : ℕ = negative p (at_column x b.pivot) in
       let product : (e : ℕ) → t < e → k * at_column b.row e ≡ 0 =
       λ e l. ⊎_elim
-        (λ later. ap (λ (n : ℕ). negative p n * at_column b.row e) (none b.pivot later)
-          ∙ ap (λ (n : ℕ). n * at_column b.row e) (negative-zero p) ∙ zero-mul (at_column b.row e))
-        (λ before. ap (λ (n : ℕ). k * n) (reduced.0.last.zero_after e (omega arith)) ∙ mul-zero k) (cases_lt t b.pivot) in
+      (λ later. ap (λ (n : ℕ). negative p n * at_column b.row e) (none b.pivot later)
+      ∙ ap (λ (n : ℕ). n * at_column b.row e) (negative-zero p) ∙ zero-mul (at_column b.row e))
+      (λ before. ap (λ (n : ℕ). k * n) (reduced.0.last.zero_after e (omega arith)) ∙ mul-zero k) (cases_lt t b.pivot) in
       reduce_by-zero_after bs (cleared p b.pivot b.row x) t reduced.2 row'
       (λ e l.
-        at_column-add_scaled p k x b.row e (omega arith) (row.count ∙ sym reduced.0.fits.count)
-        ∙ ap₂ (λ (m n : ℕ). (m + n) % p) (none e l) (product e l)
-        ∙ mod-eq_of_lt (omega arith))
+      at_column-add_scaled p k x b.row e (omega arith) (row.count ∙ sym reduced.0.fits.count)
+      ∙ ap₂ (λ (m n : ℕ). (m + n) % p) (none e l) (product e l)
+      ∙ mod-eq_of_lt (omega arith))
       d after

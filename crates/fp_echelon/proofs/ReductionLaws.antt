@@ -83,10 +83,9 @@ module _ (p width : ℕ) (some : 1 < p) where
   pub ZeroAtPivots-reduce_by : (bs : List BasisRow) (x : List ℕ) → IsReduced p width bs → IsRow p width x → ZeroAtPivots (reduce_by p bs x) bs
   ZeroAtPivots-reduce_by [] x reduced row = tt
   ZeroAtPivots-reduce_by (b ∷ bs) x reduced row =
-      let row' = IsRow-cleared b.row x reduced.0.fits row b.pivot in
-      (
+      let row' = IsRow-cleared b.row x reduced.0.fits row b.pivot in (
         at_column-reduce_by bs (cleared p b.pivot b.row x) b.pivot (AreRows-reduced p width bs reduced.2) row' reduced.1.others
-        ∙ at_column-cleared b.row x reduced.0.fits row b.pivot reduced.0.one,
+            ∙ at_column-cleared b.row x reduced.0.fits row b.pivot reduced.0.one,
         ZeroAtPivots-reduce_by bs (cleared p b.pivot b.row x) reduced.2 row',
       )
 

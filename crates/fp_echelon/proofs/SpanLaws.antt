@@ -87,9 +87,9 @@ InSpan-cons p width r rows x h row are s = record {
   coefficients = 0 ∷ s.coefficients;
   fits = record { count = ap (λ (n : ℕ). suc n) s.fits.count; below = (h, s.fits.below) };
   sum =
-    ap (λ (l : List ℕ). add_rows p l (combine p width s.coefficients rows)) (scale_row-zero p r h ∙ ap zeros row.count)
-    ∙ zeros-add_rows p width (combine p width s.coefficients rows) (IsRow-combine p width s.coefficients rows h are)
-    ∙ s.sum;
+      ap (λ (l : List ℕ). add_rows p l (combine p width s.coefficients rows)) (scale_row-zero p r h ∙ ap zeros row.count)
+      ∙ zeros-add_rows p width (combine p width s.coefficients rows) (IsRow-combine p width s.coefficients rows h are)
+      ∙ s.sum;
 }
 
 pub InSpan-head : (p width : ℕ) (r : List ℕ) (rows : List (List ℕ)) → 1 < p → IsRow p width r → AreRows p width rows → InSpan p width (r ∷ rows) r
@@ -100,9 +100,9 @@ InSpan-head p width r rows h row are = record {
     below = (h, (IsRow-zeros p (length rows) (omega arith)).below);
   };
   sum =
-    ap₂ (add_rows p) (scale_row-one p r row.below) (combine-zeros p width (length rows) rows (omega arith) are)
-    ∙ ap (λ (n : ℕ). add_rows p r (zeros n)) (sym row.count)
-    ∙ add_rows-zeros p r row.below;
+      ap₂ (add_rows p) (scale_row-one p r row.below) (combine-zeros p width (length rows) rows (omega arith) are)
+      ∙ ap (λ (n : ℕ). add_rows p r (zeros n)) (sym row.count)
+      ∙ add_rows-zeros p r row.below;
 }
 
 pub EachInSpan-cons : (p width : ℕ) (r : List ℕ) (rows xs : List (List ℕ)) → 0 < p → IsRow p width r → AreRows p width rows
@@ -145,9 +145,10 @@ AreRows-push p width (s ∷ rows) r are row = (are.0, AreRows-push p width rows 
 pub EachInSpan-front : (p width : ℕ) (rows : List (List ℕ)) (r : List ℕ) → 1 < p → AreRows p width rows → IsRow p width r
     → EachInSpan p width (rows ++ r ∷ []) rows
 EachInSpan-front p width [] r h are row = tt
-EachInSpan-front p width (s ∷ rows) r h are row =
-    (InSpan-head p width s (rows ++ r ∷ []) h are.0 (AreRows-push p width rows r are.1 row),
-     EachInSpan-cons p width s (rows ++ r ∷ []) rows (omega arith) are.0 (AreRows-push p width rows r are.1 row) (EachInSpan-front p width rows r h are.1 row))
+EachInSpan-front p width (s ∷ rows) r h are row = (
+  InSpan-head p width s (rows ++ r ∷ []) h are.0 (AreRows-push p width rows r are.1 row),
+  EachInSpan-cons p width s (rows ++ r ∷ []) rows (omega arith) are.0 (AreRows-push p width rows r are.1 row) (EachInSpan-front p width rows r h are.1 row),
+)
 
 pub InSpan-push : (p width : ℕ) (rows : List (List ℕ)) (r x : List ℕ) → 1 < p → AreRows p width rows → IsRow p width r
     → InSpan p width rows x → InSpan p width (rows ++ r ∷ []) x

@@ -50,9 +50,9 @@ module _ (p width : ℕ) (some : 1 < p) where
         record {
           fits = IsRow-add_scaled p (length added) k b.coefficients a.coefficients (omega arith) t.fits s.fits;
           sum =
-            combine-add_rows p width b.coefficients (scale_row p k a.coefficients) added (omega arith)
-            (t.fits.count ∙ sym s.fits.count ∙ sym (length-scale_row p k a.coefficients))
-            ∙ ap₂ (add_rows p) t.sum (combine-scale_row p width k a.coefficients added (omega arith) ∙ ap (scale_row p k) s.sum);
+              combine-add_rows p width b.coefficients (scale_row p k a.coefficients) added (omega arith)
+              (t.fits.count ∙ sym s.fits.count ∙ sym (length-scale_row p k a.coefficients))
+              ∙ ap₂ (add_rows p) t.sum (combine-scale_row p width k a.coefficients added (omega arith) ∙ ap (scale_row p k) s.sum);
         }
 
     pub IsSum-scaled : (c k : ℕ) (b : BasisRow) → IsSum p width added b → IsSum p width added (scaled p c k b)
@@ -81,28 +81,30 @@ module _ (p width : ℕ) (some : 1 < p) where
       pub AreSums-extended : (bs : List BasisRow) → AreSums p width added bs → AreSums p width (added ++ x ∷ []) (extended bs)
       AreSums-extended [] sums = tt
       AreSums-extended (b ∷ bs) sums =
-          let s = sums.0 in
-          (record {
-            fits = subst (λ (n : ℕ). IsRow p n (b.coefficients ++ 0 ∷ [])) (length_push_row added x)
-            (IsRow-push p (length added) b.coefficients 0 s.fits (omega arith));
-            sum =
-              combine-push p width 0 b.coefficients x added (omega arith) s.fits.count row are
-              ∙ ap (add_rows p (combine p width b.coefficients added)) (scale_row-zero p x (omega arith) ∙ ap zeros row.count)
-              ∙ add_rows_comm p (combine p width b.coefficients added) (zeros width)
-              ∙ zeros-add_rows p width (combine p width b.coefficients added) (IsRow-combine p width b.coefficients added (omega arith) are)
-              ∙ s.sum;
-          }, AreSums-extended bs sums.1)
+          let s = sums.0 in (
+            record {
+              fits = subst (λ (n : ℕ). IsRow p n (b.coefficients ++ 0 ∷ [])) (length_push_row added x)
+                  (IsRow-push p (length added) b.coefficients 0 s.fits (omega arith));
+              sum =
+                  combine-push p width 0 b.coefficients x added (omega arith) s.fits.count row are
+                  ∙ ap (add_rows p (combine p width b.coefficients added)) (scale_row-zero p x (omega arith) ∙ ap zeros row.count)
+                  ∙ add_rows_comm p (combine p width b.coefficients added) (zeros width)
+                  ∙ zeros-add_rows p width (combine p width b.coefficients added) (IsRow-combine p width b.coefficients added (omega arith) are)
+                  ∙ s.sum;
+            },
+            AreSums-extended bs sums.1,
+          )
 
       pub IsSum-started : IsSum p width (added ++ x ∷ []) (started x (length added))
       IsSum-started =
           let none = IsRow-zeros p (length added) (omega arith) in
           record {
             fits = subst (λ (n : ℕ). IsRow p n (zeros (length added) ++ 1 ∷ [])) (length_push_row added x)
-            (IsRow-push p (length added) (zeros (length added)) 1 none some);
+                (IsRow-push p (length added) (zeros (length added)) 1 none some);
             sum =
-              combine-push p width 1 (zeros (length added)) x added (omega arith) none.count row are
-              ∙ ap₂ (add_rows p) (combine-zeros p width (length added) added (omega arith) are) (scale_row-one p x row.below)
-              ∙ zeros-add_rows p width x row;
+                combine-push p width 1 (zeros (length added)) x added (omega arith) none.count row are
+                ∙ ap₂ (add_rows p) (combine-zeros p width (length added) added (omega arith) are) (scale_row-one p x row.below)
+                ∙ zeros-add_rows p width x row;
           }
 
   -- the rows of the basis after an insertion are the sums that their coefficients say

@@ -50,26 +50,26 @@ module _ (p width : ℕ) (some : 1 < p) where
       let are = AreRows-reduced p width bs reduced.2 in
       ⊎_elim
       (λ e.
-        subst (λ (a : BasisRow). Found p width c (b ∷ bs) a) (sym (at_pivot-head c b bs e))
-        (record {
-          pivot_row = reduced.0;
-          at = e;
-          span = InSpan-head p width b.row (rows_of bs) some reduced.0.fits are;
-          others = λ d pivot ne. ⊎_elim (λ e'. absurd (ne (sym e' ∙ e))) (λ more. ZeroAtPivots-at b.row bs d reduced.1.own more) pivot;
-          column = λ d none. none.0;
-        }))
+      subst (λ (a : BasisRow). Found p width c (b ∷ bs) a) (sym (at_pivot-head c b bs e))
+      (record {
+        pivot_row = reduced.0;
+        at = e;
+        span = InSpan-head p width b.row (rows_of bs) some reduced.0.fits are;
+        others = λ d pivot ne. ⊎_elim (λ e'. absurd (ne (sym e' ∙ e))) (λ more. ZeroAtPivots-at b.row bs d reduced.1.own more) pivot;
+        column = λ d none. none.0;
+      }))
       (λ ne.
-        let rest = found c bs reduced.2 (⊎_elim (λ e. absurd (ne e)) (λ more. more) h) in
-        subst (λ (a : BasisRow). Found p width c (b ∷ bs) a) (sym (at_pivot-tail c b bs ne))
-        (record {
-          pivot_row = rest.pivot_row;
-          at = rest.at;
-          span = InSpan-cons p width b.row (rows_of bs) (at_pivot c bs).row (omega arith) reduced.0.fits are rest.span;
-          others = λ d pivot ne'. ⊎_elim
+      let rest = found c bs reduced.2 (⊎_elim (λ e. absurd (ne e)) (λ more. more) h) in
+      subst (λ (a : BasisRow). Found p width c (b ∷ bs) a) (sym (at_pivot-tail c b bs ne))
+      (record {
+        pivot_row = rest.pivot_row;
+        at = rest.at;
+        span = InSpan-cons p width b.row (rows_of bs) (at_pivot c bs).row (omega arith) reduced.0.fits are rest.span;
+        others = λ d pivot ne'. ⊎_elim
             (λ e'. subst (λ (n : ℕ). at_column (at_pivot c bs).row n ≡ 0) e' (rest.column b.pivot reduced.1.others))
             (λ more. rest.others d more ne') pivot;
-          column = λ d none. rest.column d none.1;
-        }))
+        column = λ d none. rest.column d none.1;
+      }))
       (cases_eq b.pivot c)
 
   -- a combination that is 0 after a column which is no pivot is 0 at this column too
@@ -87,23 +87,23 @@ module _ (p width : ℕ) (some : 1 < p) where
       -- where the first row is 0, the other rows alone make the entry
       let alone : (d : ℕ) → at_column b.row d ≡ 0 → at_column (combine p width (k ∷ ks) (rows_of (b ∷ bs))) d ≡ at_column rest d =
       λ d zero_there.
-        at_column-combine_cons p width some k ks b.row (rows_of bs) d reduced.0.fits are
-        ∙ ap (λ (n : ℕ). (k * n + at_column rest d) % p) zero_there
-        ∙ ap (λ (n : ℕ). (n + at_column rest d) % p) (mul-zero k)
-        ∙ ap (λ (n : ℕ). n % p) (zero-add (at_column rest d))
-        ∙ mod-eq_of_lt (at_column-below p rest d (omega arith) rest_row.below) in
+      at_column-combine_cons p width some k ks b.row (rows_of bs) d reduced.0.fits are
+      ∙ ap (λ (n : ℕ). (k * n + at_column rest d) % p) zero_there
+      ∙ ap (λ (n : ℕ). (n + at_column rest d) % p) (mul-zero k)
+      ∙ ap (λ (n : ℕ). n % p) (zero-add (at_column rest d))
+      ∙ mod-eq_of_lt (at_column-below p rest d (omega arith) rest_row.below) in
       ⊎_elim
       (λ before.
-        alone c (reduced.0.last.zero_after c before)
-        ∙ none_at bs ks c reduced.2 row' (λ h. none (inr h))
-        (λ d l. sym (alone d (reduced.0.last.zero_after d (omega arith))) ∙ after d l))
+      alone c (reduced.0.last.zero_after c before)
+      ∙ none_at bs ks c reduced.2 row' (λ h. none (inr h))
+      (λ d l. sym (alone d (reduced.0.last.zero_after d (omega arith))) ∙ after d l))
       (λ later. ⊎_elim (λ e. absurd (none (inl e)))
-        (λ ne.
-          let first : k ≡ 0 = sym (at_column-first_pivot p width some b bs k ks reduced row.below.0) ∙ after b.pivot (omega arith) in
-          let same = combine-zero_first p width some k ks b.row (rows_of bs) first reduced.0.fits are in
-          ap (λ (l : List ℕ). at_column l c) same
-          ∙ none_at bs ks c reduced.2 row' (λ h. none (inr h)) (λ d l. ap (λ (m : List ℕ). at_column m d) (sym same) ∙ after d l))
-        (cases_eq b.pivot c))
+      (λ ne.
+      let first : k ≡ 0 = sym (at_column-first_pivot p width some b bs k ks reduced row.below.0) ∙ after b.pivot (omega arith) in
+      let same = combine-zero_first p width some k ks b.row (rows_of bs) first reduced.0.fits are in
+      ap (λ (l : List ℕ). at_column l c) same
+      ∙ none_at bs ks c reduced.2 row' (λ h. none (inr h)) (λ d l. ap (λ (m : List ℕ). at_column m d) (sym same) ∙ after d l))
+      (cases_eq b.pivot c))
       (cases_lt b.pivot c)
 
   -- the last nonzero column of a row of the span is a pivot
@@ -111,8 +111,8 @@ module _ (p width : ℕ) (some : 1 < p) where
   last_is_pivot bs x c reduced s last =
       ⊎_elim (λ h. h)
       (λ none. absurd (last.nonzero
-        (ap (λ (l : List ℕ). at_column l c) (sym s.sum)
-        ∙ none_at bs s.coefficients c reduced s.fits none (λ d l. ap (λ (m : List ℕ). at_column m d) s.sum ∙ last.zero_after d l))))
+      (ap (λ (l : List ℕ). at_column l c) (sym s.sum)
+      ∙ none_at bs s.coefficients c reduced s.fits none (λ d l. ap (λ (m : List ℕ). at_column m d) s.sum ∙ last.zero_after d l))))
       (pivot_or_not c bs)
 
   -- two reduced bases
@@ -138,18 +138,18 @@ module _ (p width : ℕ) (some : 1 < p) where
         λ d. at_column-add_scaled p (p - 1) x y d (omega arith) (row.count ∙ sym row'.count) in
         let zero_there : (d : ℕ) → IsPivot d cs → at_column (difference p x y) d ≡ 0 =
         λ d pivot. ⊎_elim
-          (λ e.
-            ap (at_column (difference p x y)) e
-            ∙ entry c
-            ∙ ap₂ (λ (m n : ℕ). (m + (p - 1) * n) % p) one one'
-            ∙ ap (λ (n : ℕ). (1 + n) % p) (mul-one (p - 1))
-            ∙ minus_one_cancels p (omega arith))
-          (λ ne.
-            entry d
-            ∙ ap₂ (λ (m n : ℕ). (m + (p - 1) * n) % p) (b.others d (back d pivot) ne) (f.others d pivot ne)
-            ∙ ap (λ (n : ℕ). (0 + n) % p) (mul-zero (p - 1))
-            ∙ mod-eq_of_lt (omega arith))
-          (cases_eq d c) in
+        (λ e.
+        ap (at_column (difference p x y)) e
+        ∙ entry c
+        ∙ ap₂ (λ (m n : ℕ). (m + (p - 1) * n) % p) one one'
+        ∙ ap (λ (n : ℕ). (1 + n) % p) (mul-one (p - 1))
+        ∙ minus_one_cancels p (omega arith))
+        (λ ne.
+        entry d
+        ∙ ap₂ (λ (m n : ℕ). (m + (p - 1) * n) % p) (b.others d (back d pivot) ne) (f.others d pivot ne)
+        ∙ ap (λ (n : ℕ). (0 + n) % p) (mul-zero (p - 1))
+        ∙ mod-eq_of_lt (omega arith))
+        (cases_eq d c) in
         equal_from_difference p width some x y row row'
         (zero_from_pivots p width some cs (difference p x y) reduced'
         (InSpan-difference p width some (rows_of cs) (AreRows-reduced p width cs reduced') x y (into x b.span) f.span)
@@ -163,6 +163,6 @@ module _ (p width : ℕ) (some : 1 < p) where
       record {
         pivots = λ c. (there c, back c);
         rows = λ c. ⊎_elim (λ h. same_row bs cs reduced reduced' (λ x. (same x).0) c back h)
-          (λ none. ap (λ (b : BasisRow). b.row) (at_pivot-none c bs none ∙ sym (at_pivot-none c cs (λ h. none (back c h)))))
-          (pivot_or_not c bs);
+            (λ none. ap (λ (b : BasisRow). b.row) (at_pivot-none c bs none ∙ sym (at_pivot-none c cs (λ h. none (back c h)))))
+            (pivot_or_not c bs);
       }

@@ -93,7 +93,13 @@ impl Entry {
         ensures { self.new ≡ plus_slot count k other.now self.old }
     {
         self.row.add_scaled(&other.row, k);
-        add_to_front(self.row.prime(), &mut self.coefficients, &other.coefficients, count, k);
+        add_to_front(
+            self.row.prime(),
+            &mut self.coefficients,
+            &other.coefficients,
+            count,
+            k,
+        );
     }
 
     /// Multiplies the entry by `k`, with the first `count` coefficients, and puts its pivot at a column.

@@ -18,10 +18,10 @@ use Rattle.lpres_reader.proofs.FrontLemmas.{Follows, follows, tells}
 use Rattle.lpres_reader.proofs.Places.{place_of-Some, place_of-None}
 
 -- brackets, where some are open and some more may be
-abbrev ShallowFrom : ℕ → ℕ → List ℕ → Type 0
+abbrev pub ShallowFrom : ℕ → ℕ → List ℕ → Type 0
 ShallowFrom opened allowed line = (n : ℕ) → count_by is_opening (take n line) + opened ≤ count_by is_closing (take n line) + allowed
 
-is_one_if : (b : Bool) → cond b 1 0 ≡ one_if b
+pub is_one_if : (b : Bool) → cond b 1 0 ≡ one_if b
 is_one_if true = refl
 is_one_if false = refl
 
@@ -34,18 +34,18 @@ moved x y a c o m h = omega arith
 moved_back : (x y a c o m : ℕ) → (x + a) + o ≤ (y + c) + m → a + (x + o) ≤ c + (y + m)
 moved_back x y a c o m h = omega arith
 
-shallow_nil : (o m n : ℕ) → o ≤ m → count_by is_opening (take n []) + o ≤ count_by is_closing (take n []) + m
+pub shallow_nil : (o m n : ℕ) → o ≤ m → count_by is_opening (take n []) + o ≤ count_by is_closing (take n []) + m
 shallow_nil o m zero h = omega arith
 shallow_nil o m (suc n) h = omega arith
 
-shallow_cons : (b : ℕ) (line : List ℕ) (o m : ℕ) → o ≤ m → ShallowFrom (one_if (is_opening b) + o) (one_if (is_closing b) + m) line → ShallowFrom o m (b ∷ line)
+pub shallow_cons : (b : ℕ) (line : List ℕ) (o m : ℕ) → o ≤ m → ShallowFrom (one_if (is_opening b) + o) (one_if (is_closing b) + m) line → ShallowFrom o m (b ∷ line)
 shallow_cons b line o m h rest zero = omega arith
 shallow_cons b line o m h rest (suc n) =
     subst (λ (x : ℕ). x + o ≤ count_by is_closing (take (suc n) (b ∷ line)) + m) (sym (count_step is_opening b line n))
     (subst (λ (y : ℕ). (one_if (is_opening b) + count_by is_opening (take n line)) + o ≤ y + m) (sym (count_step is_closing b line n))
     (moved (one_if (is_opening b)) (one_if (is_closing b)) (count_by is_opening (take n line)) (count_by is_closing (take n line)) o m (rest n)))
 
-shallow_tail : (b : ℕ) (line : List ℕ) (o m : ℕ) → ShallowFrom o m (b ∷ line) → ShallowFrom (one_if (is_opening b) + o) (one_if (is_closing b) + m) line
+pub shallow_tail : (b : ℕ) (line : List ℕ) (o m : ℕ) → ShallowFrom o m (b ∷ line) → ShallowFrom (one_if (is_opening b) + o) (one_if (is_closing b) + m) line
 shallow_tail b line o m h n =
     moved_back (one_if (is_opening b)) (one_if (is_closing b)) (count_by is_opening (take n line)) (count_by is_closing (take n line)) o m
     (subst (λ (x : ℕ). x + o ≤ (one_if (is_closing b) + count_by is_closing (take n line)) + m) (count_step is_opening b line n)

@@ -146,7 +146,7 @@ step_stands (behind a s f) (symbol Star) =
 step_stands (behind a s f) t = factor_stands a s f t (word_stands a (joined s f) t)
 
 -- if there is a tree, it has these tokens
-abbrev IsTreeOf : Option ItemTree → List Token → Type 0
+abbrev pub IsTreeOf : Option ItemTree → List Token → Type 0
 IsTreeOf None ts = Unit {0}
 IsTreeOf (Some i) ts = item_tokens i ≡ ts
 

@@ -10,7 +10,8 @@ use Rattle.lpres_reader.specs.Tokens.{name, ReadsTokens}
 use Rattle.lpres_reader.specs.Front.{line_end, token_first, front_of}
 use Rattle.lpres_reader.specs.PlainLines.{IsNoName, IsPlainGenerators}
 use Rattle.lpres_reader.proofs.Leads.{Leads, leads_on, leads_to_end}
-use Rattle.lpres_reader.proofs.PlainNames.{token_leads, ends_here, name_first_is, no_name_at_end, no_name_first, end_is_no_name, name_at_end}
+use Rattle.lpres_reader.proofs.LineTokens.{token_leads, ends_here}
+use Rattle.lpres_reader.proofs.PlainNames.{name_first_is, no_name_at_end, no_name_first, end_is_no_name, name_at_end}
 use Rattle.lpres_reader.proofs.KeptNames.{repeated_name}
 
 -- the line is these names, without commas

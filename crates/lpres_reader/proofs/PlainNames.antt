@@ -1,33 +1,11 @@
 -- Lines of names: what the front of such a line is, and how reading goes on to the names behind it.
 use Rattle.std.proofs.Common.{◌≡◌, ◌≢◌, ℕ, ◌<◌, length, get_or, List, [], ◌∷◌, refl, sym, subst, ◌∙◌}
-use Rattle.std.specs.Prelude.{Option, Some, None, MatchOption, Result, Ok, Err, MatchResult, codes}
+use Rattle.std.specs.Prelude.{Result, Ok, Err, MatchResult, codes}
 use Rattle.lpres_reader.specs.Tokens.{Token, name, number, symbol, ReadsTokens}
 use Rattle.lpres_reader.specs.Front.{Front, line_end, no_token, token_first, front_of}
 use Rattle.lpres_reader.specs.PlainLines.{IsNoName, IsPlainRelatorOf}
-use Rattle.lpres_reader.proofs.FrontLemmas.{Follows, follows, tells, tokens_unique}
-use Rattle.lpres_reader.proofs.Leads.{Leads}
-
--- one token leads to what is behind it
-pub token_leads : (line rest : List ℕ) (t : Token) → front_of line ≡ token_first t rest → Leads ReadsTokens line (t ∷ []) rest
-token_leads line rest t e = record {
-  from = λ ts d. tells line (t ∷ ts) (subst (λ (f : Front). Follows f (t ∷ ts)) (sym e) (ts, refl, d));
-  to = λ ts d. subst (λ (f : Front). Follows f ts) e (follows d);
-}
-
-pub ends_here : (line : List ℕ) → front_of line ≡ line_end → ReadsTokens line []
-ends_here line e = tells line [] (subst (λ (f : Front). Follows f []) (sym e) refl)
-
--- an option that is no Some is None
-pub none_left : {A : Type 0} (o : Option A) (P : Type 0) (Q : A → Type 0) → ((x : A) → o ≡ Some x → ⊥) → MatchOption o P Q → P
-none_left None P Q no_some h = h
-none_left (Some x) P Q no_some h = absurd (no_some x refl)
-
-pub same_error : {T E : Type 0} (r : Result T E) (a b : E) → r ≡ Err a → r ≡ Err b → a ≡ b
-same_error r a b e f = let g = sym e ∙ f in cc
-
--- a line of tokens has the first of them at its front
-pub end_only : (line : List ℕ) (ts : List Token) → front_of line ≡ line_end → ReadsTokens line ts → ts ≡ []
-end_only line ts e d = subst (λ (f : Front). Follows f ts) e (follows d)
+use Rattle.lpres_reader.proofs.FrontLemmas.{Follows, follows, tokens_unique}
+use Rattle.lpres_reader.proofs.LineTokens.{token_leads, end_only}
 
 no_name_follows : (f : Front) (n : List ℕ) (ts : List Token) → IsNoName f → Follows f (name n ∷ ts) → ⊥
 no_name_follows line_end n ts h f = h

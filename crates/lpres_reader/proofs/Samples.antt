@@ -17,7 +17,7 @@ use Rattle.lpres_reader.specs.Limits.{AreShort}
 use Rattle.lpres_reader.specs.Reads.{Reads}
 use Rattle.lpres_reader.specs.Front.{token_first, front_of}
 use Rattle.lpres_reader.proofs.FrontLemmas.{tokens_unique}
-use Rattle.lpres_reader.proofs.PlainNames.{token_leads, ends_here}
+use Rattle.lpres_reader.proofs.LineTokens.{token_leads, ends_here}
 use Rattle.lpres_reader.proofs.NarrowForms.{names_are}
 use Rattle.lpres_reader.proofs.NarrowTexts.{same_first}
 

@@ -57,3 +57,11 @@ front_at b rest =
 abbrev pub front_of : List ℕ → Front
 front_of [] = line_end
 front_of (b ∷ rest) = if is_blank b then front_of rest else front_at b rest
+
+-- a name comes first
+abbrev pub IsNamed : Front → Type 0
+IsNamed (token_first (name n) rest) = Unit {0}
+IsNamed (token_first (number n) rest) = ⊥
+IsNamed (token_first (symbol n) rest) = ⊥
+IsNamed no_token = ⊥
+IsNamed line_end = ⊥

@@ -17,3 +17,11 @@ pub mod Left
 pub mod Presentations
 pub mod Refusals
 pub mod PlainLines
+pub mod Stops
+pub mod Forms
+pub mod Gatherings
+pub mod Known
+pub mod Arrows
+pub mod Values
+pub mod Meanings
+pub mod Passed

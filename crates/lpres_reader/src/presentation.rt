@@ -1,9 +1,9 @@
 //! L-presentations as values.
 
-ghost use Rattle.std.specs.Prelude.{◌≡◌, map};
+ghost use Rattle.std.specs.Prelude.{◌≡◌, ◌≤◌, length, map};
 ghost use Rattle.pq_base.specs.LPresentation.{LPresentation, IsLPresentation};
-ghost use Rattle.lpres_reader.specs.Limits.{IsWithinLimits};
-ghost use Rattle.lpres_reader.specs.Presentations.{made_of};
+ghost use Rattle.lpres_reader.specs.Limits.{IsWithinLimits, letters_in, total_letters};
+ghost use Rattle.lpres_reader.specs.Presentations.{made_of, endo_letters, AreGenerators};
 
 use free_words::Word;
 use indexmap::IndexSet;
@@ -23,13 +23,13 @@ pub struct LPres {
 impl Model for LPres {
     ghost use Rattle.pq_base.specs.LPresentation.{LPresentation, IsLPresentation};
     ghost use Rattle.lpres_reader.specs.Limits.{IsWithinLimits};
-    ghost use Rattle.lpres_reader.specs.Presentations.{made_of};
+    ghost use Rattle.lpres_reader.specs.Presentations.{made_of, AreGenerators};
 
     ghost Value = { LPresentation };
 
     ghost view = { λ p. made_of p.names.keys p.fixed.items p.iterated.items p.endos.items };
 
-    ghost invariant = { λ p. IsLPresentation (made_of p.names.keys p.fixed.items p.iterated.items p.endos.items) × IsWithinLimits (made_of p.names.keys p.fixed.items p.iterated.items p.endos.items) };
+    ghost invariant = { λ p. AreGenerators p.names.keys × IsLPresentation (made_of p.names.keys p.fixed.items p.iterated.items p.endos.items) × IsWithinLimits (made_of p.names.keys p.fixed.items p.iterated.items p.endos.items) };
 }
 
 impl LPres {
@@ -40,6 +40,7 @@ impl LPres {
         iterated: Vec<Word>,
         endos: Vec<Vec<Word>>,
     ) -> LPres
+        requires generators { AreGenerators names.keys }
         requires presentation { IsLPresentation (made_of names.keys fixed.items iterated.items endos.items) }
         requires limits { IsWithinLimits (made_of names.keys fixed.items iterated.items endos.items) }
         ensures { result ≡ made_of names.keys fixed.items iterated.items endos.items }
@@ -81,4 +82,61 @@ impl LPres {
     {
         self.endos.as_slice()
     }
+
+    /// How many relators no endomorphism carries.
+    pub(crate) fn fixed_count(&self) -> usize
+        ensures count { result ≡ length self.now.fixed }
+        ensures few { result ≤ 4096 }
+    {
+        self.fixed.len()
+    }
+
+    /// How many relators the endomorphisms carry along.
+    pub(crate) fn iterated_count(&self) -> usize
+        ensures count { result ≡ length self.now.iterated }
+        ensures few { result ≤ 4096 }
+    {
+        self.iterated.len()
+    }
+
+    /// The names of the generators, as a set.
+    pub(crate) fn name_set(&self) -> &IndexSet<Name>
+        ensures names { result.now.keys ≡ self.now.names }
+        ensures generators { AreGenerators result.now.keys }
+    {
+        &self.names
+    }
+
+    /// The letters of all relators and images.
+    #[tactic(auto, using(crate::proofs::EndoLetters::endo_letters_map))]
+    pub(crate) fn total_letters(&self) -> usize
+        ensures total { result ≡ total_letters self.now }
+        ensures limit { result ≤ 4194304 }
+    {
+        letters_in(&self.fixed) + letters_in(&self.iterated) + endo_letters(&self.endos)
+    }
+}
+
+/// The letters of words together.
+fn letters_in(words: &Vec<Word>) -> usize
+    requires { letters_in words.now.items ≤ 4194304 }
+    ensures { result ≡ letters_in words.now.items }
+{
+    let mut total = 0;
+    for word in words {
+        total += word.letters().len();
+    }
+    total
+}
+
+/// The letters of the images under endomorphisms together.
+fn endo_letters(endos: &Vec<Vec<Word>>) -> usize
+    requires { endo_letters endos.now.items ≤ 4194304 }
+    ensures { result ≡ endo_letters endos.now.items }
+{
+    let mut total = 0;
+    for endo in endos {
+        total += letters_in(endo);
+    }
+    total
 }

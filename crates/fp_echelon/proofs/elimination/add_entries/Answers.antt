@@ -18,8 +18,8 @@ loop-count-preserved c = record {
   more = (
     c.loop-count.invariant.more.0 + 1,
     one_more c.args.entries.now.items c.loop-count.entries.items c.push.new.self.items c.loop-count.invariant.more.0
-    (new_slot (prime_value c.args.prime) c.args.width c.args.room) c.in_ok-new.field-0 c.loop-count.invariant.more.1 c.in_ok-new.ensures
-    c.in_ok-push.ensures.items,
+        (new_slot (prime_value c.args.prime) c.args.width c.args.room) c.in_ok-new.field-0 c.loop-count.invariant.more.1 c.in_ok-new.ensures
+        c.in_ok-push.ensures.items,
   );
   long = omega (
     arith,

@@ -34,10 +34,10 @@ loop-other-preserved c =
     c.clear_by.ensures ∙ ap (λ (s : Slot). cleared_slot c.args.count s c.loop-other.entry) c.other-item.is in
     record {
       slot = subst (λ (s : Slot). IsSlot p width c.args.count s) (sym new)
-      (IsSlot-cleared_slot p width (prime_from_pivot p width c.args.count _ _ here pivot) c.args.count c.args.count _ c.loop-other.entry here
-      c.loop-other.invariant.slot c.loop-other.invariant.slot);
+          (IsSlot-cleared_slot p width (prime_from_pivot p width c.args.count _ _ here pivot) c.args.count c.args.count _ c.loop-other.entry here
+          c.loop-other.invariant.slot c.loop-other.invariant.slot);
       rest =
-        ap (λ (s : Slot). cleared_by_each c.args.count (drop (i + 1) c.args.others.now) s) new
-        ∙ sym (at_drop_more (λ (l : List Slot). cleared_by_each c.args.count l c.loop-other.entry) c.args.others.now i c.other-item.result c.loop-other-test.true)
-        ∙ c.loop-other.invariant.rest;
+          ap (λ (s : Slot). cleared_by_each c.args.count (drop (i + 1) c.args.others.now) s) new
+          ∙ sym (at_drop_more (λ (l : List Slot). cleared_by_each c.args.count l c.loop-other.entry) c.args.others.now i c.other-item.result c.loop-other-test.true)
+          ∙ c.loop-other.invariant.rest;
     }

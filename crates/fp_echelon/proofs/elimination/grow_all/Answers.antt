@@ -9,12 +9,11 @@ use Rattle.fp_echelon.proofs.elimination.grow_all.Goals as goal
 pub returns-in_err-make_room-clause-err : goal.returns-in_err-make_room-clause-err
 returns-in_err-make_room-clause-err c =
     let p = err_from_is_err_and c.from_residual.result c.from_residual.ensures.1 in
-    rw p.1
-    (
+    rw p.1 (
       c.loop-entry.entry-index,
       ap (set c.loop-entry.entries c.loop-entry.entry-index) c.in_err-make_room.ensures.err
-      ∙ set-get_or c.loop-entry.entries c.loop-entry.entry-index c.entry-item.result
-      ∙ c.loop-entry.invariant,
+          ∙ set-get_or c.loop-entry.entries c.loop-entry.entry-index c.entry-item.result
+          ∙ c.loop-entry.invariant,
     )
 
 pub loop-entry-preserved : goal.loop-entry-preserved

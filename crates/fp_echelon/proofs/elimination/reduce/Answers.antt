@@ -36,12 +36,12 @@ loop-entry-preserved c =
     record {
       prime = ap (λ (r : PrimeRow). r.prime) c.clear_row.ensures ∙ c.loop-entry.invariant.prime;
       width =
-        ap (λ (r : PrimeRow). length r.entries) c.clear_row.ensures
-        ∙ length-add_scaled c.loop-entry.row.prime (negative c.loop-entry.row.prime (at_column c.loop-entry.row.entries item.pivot))
-        c.loop-entry.row.entries item.row wide
-        ∙ c.loop-entry.invariant.width;
+          ap (λ (r : PrimeRow). length r.entries) c.clear_row.ensures
+          ∙ length-add_scaled c.loop-entry.row.prime (negative c.loop-entry.row.prime (at_column c.loop-entry.row.entries item.pivot))
+          c.loop-entry.row.entries item.row wide
+          ∙ c.loop-entry.invariant.width;
       rest = λ n.
-        ap (λ (l : List ℕ). reduce_by p (all_seen n (drop (i + 1) c.args.entries.now)) l) new
-        ∙ sym (at_drop_more (λ (l : List Slot). reduce_by p (all_seen n l) c.loop-entry.row.entries) c.args.entries.now i item c.loop-entry-test.true)
-        ∙ c.loop-entry.invariant.rest n;
+          ap (λ (l : List ℕ). reduce_by p (all_seen n (drop (i + 1) c.args.entries.now)) l) new
+          ∙ sym (at_drop_more (λ (l : List Slot). reduce_by p (all_seen n l) c.loop-entry.row.entries) c.args.entries.now i item c.loop-entry-test.true)
+          ∙ c.loop-entry.invariant.rest n;
     }

@@ -9,5 +9,5 @@ invariant-loop-entry l = record {
   prime : l.row.prime ≡ l.initial.row.prime;
   width : length l.row.entries ≡ length l.initial.row.entries;
   rest : (n : ℕ) → reduce_by l.initial.row.prime (all_seen n (drop l.entry-index l.entries)) l.row.entries
-    ≡ reduce_by l.initial.row.prime (all_seen n l.entries) l.initial.row.entries;
+      ≡ reduce_by l.initial.row.prime (all_seen n l.entries) l.initial.row.entries;
 }

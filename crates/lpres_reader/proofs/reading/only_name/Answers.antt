@@ -1,7 +1,8 @@
 use Rattle.std.proofs.Common.{refl, []}
 use Rattle.std.proofs.lemmas.Result.{err_from_is_err_and}
 use Rattle.lpres_reader.specs.Tokens.{name}
-use Rattle.lpres_reader.proofs.PlainNames.{no_name_first, end_is_no_name, name_first_is, no_name_at_end, name_at_end, token_leads, ends_here}
+use Rattle.lpres_reader.proofs.LineTokens.{token_leads, ends_here}
+use Rattle.lpres_reader.proofs.PlainNames.{no_name_first, end_is_no_name, name_first_is, no_name_at_end, name_at_end}
 use Rattle.lpres_reader.proofs.reading.only_name.Goals as goal
 
 pub returns-in_err-next_name : goal.returns-in_err-next_name

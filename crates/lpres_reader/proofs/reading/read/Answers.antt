@@ -2,7 +2,7 @@ use Rattle.std.proofs.Common.{rules, Err, ap, sym, ◌∙◌, option_map}
 use Rattle.std.proofs.lemmas.Result.{err_from_is_err_and}
 use Rattle.lpres_reader.specs.declared.refusal.ReadRefusal.TheVariants.{NotBuilt}
 use Rattle.lpres_reader.specs.Left.{content_left}
-use Rattle.lpres_reader.proofs.PlainNames.{same_error}
+use Rattle.lpres_reader.proofs.LineTokens.{same_error}
 use Rattle.lpres_reader.proofs.PlainTexts.{read_parts}
 use Rattle.lpres_reader.proofs.NarrowTexts.{plain_text, narrow_places}
 use Rattle.lpres_reader.proofs.reading.read.Goals as goal
@@ -25,7 +25,8 @@ of_parts-requires c =
     let later = content_left (option_map (λ t. t.now) c.in-Some.rest) in
     let all = read_parts c.args.text.now c.in-Some.first.now later c.in_ok-names.names.keys c.in_ok-fixed.fixed.items c.new.result.items c.new-2.result.items
     c.in-Some.ensures.lines c.in_ok-names.ensures.ok c.in_ok-fixed.ensures.ok c.new.ensures.items c.new-2.ensures.items in
-    record { presentation = all.presentation; limits = all.limits }
+    let line = c.in_ok-names.ensures.ok in
+    record { generators = record { each = line.each; most = line.most; distinct = line.distinct }; presentation = all.presentation; limits = all.limits }
 
 pub returns : goal.returns
 returns c =

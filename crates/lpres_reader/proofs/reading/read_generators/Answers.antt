@@ -8,7 +8,7 @@ use Rattle.pq_base.specs.Name.{IsName}
 use Rattle.lpres_reader.specs.Tokens.{name}
 use Rattle.lpres_reader.proofs.FrontLemmas.{rest_is_shorter}
 use Rattle.lpres_reader.proofs.Leads.{leads_nowhere, leads_on}
-use Rattle.lpres_reader.proofs.PlainNames.{none_left, same_error}
+use Rattle.lpres_reader.proofs.LineTokens.{none_left, same_error}
 use Rattle.lpres_reader.proofs.PlainGenerators.{IsNames, name_leads, no_name_leads, end_leads, names_behind, names_spelled, refused_name}
 use Rattle.lpres_reader.proofs.reading.read_generators.Goals as goal
 

@@ -1,7 +1,7 @@
 use Rattle.std.proofs.Common.{◌≡◌, option_map, List, ◌++◌, ◌∷◌, [], ap, ◌∙◌, arith}
 use Rattle.std.specs.Prelude.{ℤ}
 use Rattle.lpres_reader.specs.PlainLines.{generator_word}
-use Rattle.lpres_reader.proofs.PlainNames.{none_left}
+use Rattle.lpres_reader.proofs.LineTokens.{none_left}
 use Rattle.lpres_reader.proofs.PlainRelators.{one_more, all_read}
 use Rattle.lpres_reader.proofs.reading.read_relators.Goals as goal
 

@@ -13,8 +13,9 @@ invariant_of-self c =
     subst (λ (n : ℕ). 0 < n) c.prime.ensures.prime (prime_value-pos c.prime.result) in
     let below : AllBelow c.add_scaled.new.self.prime c.deref_mut.result.now =
     subst (λ (n : ℕ). AllBelow n c.deref_mut.result.now) (sym same)
-    (subst (λ (l : List ℕ). AllBelow c.self.inside.row.prime l) (sym c.deref_mut.ensures.value) c.self.invariant.1) in
-    (c.self.invariant.0 ∙ sym same,
-     AllBelow-added c.add_scaled.new.self.prime (prime_value c.prime.result) c.args.count c.self.inside.coefficients.len c.args.k
-     c.add_to_front.new.xs (drop (length c.add_to_front.new.xs) c.self.inside.coefficients.items) c.deref_mut.result.now c.deref.result.now
-     some c.prime.ensures.prime (omega arith) below c.add_to_front.ensures)
+    (subst (λ (l : List ℕ). AllBelow c.self.inside.row.prime l) (sym c.deref_mut.ensures.value) c.self.invariant.1) in (
+      c.self.invariant.0 ∙ sym same,
+      AllBelow-added c.add_scaled.new.self.prime (prime_value c.prime.result) c.args.count c.self.inside.coefficients.len c.args.k
+          c.add_to_front.new.xs (drop (length c.add_to_front.new.xs) c.self.inside.coefficients.items) c.deref_mut.result.now c.deref.result.now
+          some c.prime.ensures.prime (omega arith) below c.add_to_front.ensures,
+    )

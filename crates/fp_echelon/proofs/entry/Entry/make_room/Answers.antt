@@ -8,7 +8,8 @@ use Rattle.fp_echelon.proofs.entry.Entry.make_room.Goals as goal
 pub invariant_of-self-2 : goal.invariant_of-self-2
 invariant_of-self-2 c =
     let some : 1 ≤ c.self.inside.row.prime = subst (λ (n : ℕ). 1 ≤ n) c.prime-prime.ensures.prime (prime_value-pos c.prime-prime.result) in
-    let kept = AllBelow-take c.self.inside.row.prime c.max-room.result c.self.inside.coefficients.items c.self.invariant.1 in
-    (c.self.invariant.0,
-     subst (λ (l : List ℕ). AllBelow c.self.inside.row.prime l) (sym c.in_ok-resize.ensures.items)
-     (AllBelow-grown c.self.inside.row.prime (c.max-room.result - vec_len c.self.inside.coefficients) (take c.max-room.result c.self.inside.coefficients.items) some kept))
+    let kept = AllBelow-take c.self.inside.row.prime c.max-room.result c.self.inside.coefficients.items c.self.invariant.1 in (
+      c.self.invariant.0,
+      subst (λ (l : List ℕ). AllBelow c.self.inside.row.prime l) (sym c.in_ok-resize.ensures.items)
+          (AllBelow-grown c.self.inside.row.prime (c.max-room.result - vec_len c.self.inside.coefficients) (take c.max-room.result c.self.inside.coefficients.items) some kept),
+    )

@@ -13,6 +13,7 @@ invariant_of-result c =
     let second : c.in_ok-zero-2.field-0.prime ≡ prime_value c.args.prime = ap (λ (r : PrimeRow). r.prime) c.in_ok-zero-2.ensures in
     let below : AllBelow c.in_ok-zero-2.field-0.prime (zeros c.args.room) =
     subst (λ (n : ℕ). AllBelow n (zeros c.args.room)) (sym second)
-    (zeros-below (prime_value c.args.prime) c.args.room (prime_value-pos c.args.prime)) in
-    (first ∙ sym second,
-     subst (λ (l : List ℕ). AllBelow c.in_ok-zero-2.field-0.prime l) (sym (c.in_ok-vec.ensures.items_if_clones_equal (λ y e. e))) below)
+    (zeros-below (prime_value c.args.prime) c.args.room (prime_value-pos c.args.prime)) in (
+      first ∙ sym second,
+      subst (λ (l : List ℕ). AllBelow c.in_ok-zero-2.field-0.prime l) (sym (c.in_ok-vec.ensures.items_if_clones_equal (λ y e. e))) below,
+    )

@@ -14,8 +14,9 @@ invariant_of-self c =
     subst (λ (l : List ℕ). AllBelow c.copy_from-2.new.self.prime l)
     (sym (c.deref_mut.ensures.value ∙ ap (λ (s : Slot). s.coefficients) c.self.view_is))
     (subst (λ (n : ℕ). AllBelow n c.args.self.now.coefficients) (sym second) c.requires.slot.below) in
-    let unit = AllBelow-unit c.copy_from-2.new.self.prime c.args.place c.deref_mut.result.now some before in
-    (first ∙ sym second,
-     AllBelow-stored c.copy_from-2.new.self.prime c.self.inside.coefficients.len c.make_unit.new.coefficients
-     (drop (length c.make_unit.new.coefficients) c.self.inside.coefficients.items) (omega arith)
-     (subst (λ (l : List ℕ). AllBelow c.copy_from-2.new.self.prime l) (sym c.make_unit.ensures) unit))
+    let unit = AllBelow-unit c.copy_from-2.new.self.prime c.args.place c.deref_mut.result.now some before in (
+      first ∙ sym second,
+      AllBelow-stored c.copy_from-2.new.self.prime c.self.inside.coefficients.len c.make_unit.new.coefficients
+          (drop (length c.make_unit.new.coefficients) c.self.inside.coefficients.items) (omega arith)
+          (subst (λ (l : List ℕ). AllBelow c.copy_from-2.new.self.prime l) (sym c.make_unit.ensures) unit),
+    )

@@ -2,6 +2,8 @@
 //! and its status is the program's. Nothing else is read, and nothing is written to standard error.
 #![tactic(auto)]
 
+ghost use Rattle.std.specs.Prelude.{◌≡◌, ◌⊎◌};
+
 use pq_base::Status;
 use pq_io::{StdSink, StdSource};
 use pq_run::{Words, run};
@@ -32,7 +34,10 @@ fn words_of(rt: &HostRuntime) -> Result<Words, u8> {
     Ok(words)
 }
 
-fn status_of(error: io::Error) -> u8 {
+/// The status for words that can't be had: 7 for want of memory, else 1, which no command ends with.
+fn status_of(error: io::Error) -> u8
+    ensures { (result ≡ 7) ⊎ (result ≡ 1) }
+{
     match error.kind() {
         io::ErrorKind::OutOfMemory => Status::NoMemory.number(),
         _ => NO_WORDS,

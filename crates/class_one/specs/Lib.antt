@@ -1,0 +1,4 @@
+pub mod ExponentRows
+pub mod FirstClass
+pub mod BasisOfSums
+pub mod Parts

@@ -6,3 +6,11 @@ pub mod NameTexts
 pub mod NoFloats
 pub mod AnswerMembers
 mod AnswerVectors
+pub mod Splits
+pub mod WordTexts
+pub mod RelationTexts
+pub mod RelationsTold
+pub mod ImagesTold
+pub mod GeneratorsTold
+pub mod HeadTold
+pub mod OneText

@@ -2,3 +2,4 @@ pub mod Lines
 pub mod Words
 pub mod AnswerText
 pub mod AnswerData
+pub mod OneText

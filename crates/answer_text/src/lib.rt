@@ -3,6 +3,7 @@
 #![tactic(auto)]
 
 mod json_text;
+pub mod laws;
 #[cfg(test)]
 mod tests;
 mod values;

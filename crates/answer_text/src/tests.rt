@@ -81,6 +81,9 @@ const ROWS: [Row; 5] = [
 ];
 
 fn answer_of(alloc: Global, row: &Row) -> Result<Answer, Fail> {
+    if row.weights.len() > 100 {
+        return Err(Fail::new("too many weights"));
+    }
     let mut builder = PcpBuilder::new(alloc, row.prime, row.weights, 0)?;
     for (relation, right) in row.relations {
         let generator = *right;

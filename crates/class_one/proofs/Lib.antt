@@ -1,3 +1,4 @@
+pub mod ElementaryTables
 pub mod ElementaryParts
 pub mod RowValues
 pub mod LeftMembers

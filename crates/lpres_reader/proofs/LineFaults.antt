@@ -10,6 +10,7 @@ use Rattle.lpres_reader.specs.Reads.{ReadsLine, IsGenerators}
 use Rattle.lpres_reader.specs.Trees.{ItemTree, relators, arrows, arrow_meaning, body_tokens, item_tokens, AreKnown, GivesAll, item_meaning}
 use Rattle.lpres_reader.specs.Trials.{AreKept, item_trials, names_trials, added}
 use Rattle.lpres_reader.specs.Verdicts.{bare}
+use Rattle.lpres_reader.specs.Makes.{MakesNames, MakesItem, Makes}
 use Rattle.lpres_reader.specs.Faults.{Kind, Deep, Syntax, UnknownName, RepeatedName, NotAllImages, Unless, UnlessPassed, NoOther, NamesForm, ItemForm, NamesFault, ItemFault, LineFault}
 use Rattle.lpres_reader.proofs.FrontLemmas.{tokens_unique}
 use Rattle.lpres_reader.proofs.ParserReads.{item_tokens_unique}
@@ -19,23 +20,6 @@ use Rattle.lpres_reader.proofs.TrialLaws.{names_kept, names_parts}
 use Rattle.lpres_reader.proofs.AddedLaws.{kept_added}
 use Rattle.lpres_reader.proofs.NamesLaws.{generators_unique}
 use Rattle.lpres_reader.proofs.FaultLaws.{Unless-unique, Unless-next, UnlessPassed-unique, UnlessPassed-next}
-
--- the presentation that a line makes of what is before it
-pub record MakesNames (line : List ℕ) (L : LPresentation) : Type 0 where
-  pub reads : ReadsLine (IsGenerators L.names) line
-  pub distinct : AreDistinct L.names
-  pub is : L ≡ bare L.names
-  pub within : IsWithinLimits L
-
-pub record MakesItem (M : LPresentation) (line : List ℕ) (L : LPresentation) : Type 0 where
-  pub item : Item
-  pub reads : ReadsLine (λ ts. ReadsItem M.names ts item) line
-  pub is : L ≡ added M item
-  pub within : IsWithinLimits L
-
-abbrev pub Makes : Option LPresentation → List ℕ → LPresentation → Type 0
-Makes None line L = MakesNames line L
-Makes (Some M) line L = MakesItem M line L
 
 -- a presentation that was read
 abbrev pub IsSound : Option LPresentation → Type 0

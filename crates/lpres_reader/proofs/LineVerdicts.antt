@@ -20,7 +20,8 @@ use Rattle.lpres_reader.proofs.AddedLaws.{within_added}
 use Rattle.lpres_reader.proofs.NamesLaws.{names_some, generator_names_right}
 use Rattle.lpres_reader.proofs.FaultLaws.{first_passed-found}
 use Rattle.lpres_reader.proofs.Decisions.{is_shallow-Decides, AreTokens, tokens_of-found, are_known-Decides, are_distinct-Decides}
-use Rattle.lpres_reader.proofs.LineFaults.{MakesNames, MakesItem, Makes, IsSound, bare_within}
+use Rattle.lpres_reader.specs.Makes.{MakesNames, MakesItem, Makes}
+use Rattle.lpres_reader.proofs.LineFaults.{IsSound, bare_within}
 
 -- lines of generators
 abbrev NamesRight : List ℕ → List (List ℕ) → Result LPresentation Kind → Type 0

@@ -5,7 +5,8 @@ use Rattle.std.proofs.lemmas.Bool.{true≢false}
 use Rattle.pq_base.specs.LPresentation.{LPresentation}
 use Rattle.lpres_reader.specs.Lines.{is_skipped}
 use Rattle.lpres_reader.specs.Faults.{Kind, LineFault}
-use Rattle.lpres_reader.proofs.LineFaults.{Makes, IsSound, makes_sound, makes_unique, fault_unique, not_both}
+use Rattle.lpres_reader.specs.Makes.{Makes}
+use Rattle.lpres_reader.proofs.LineFaults.{IsSound, makes_sound, makes_unique, fault_unique, not_both}
 use Rattle.lpres_reader.proofs.LineVerdicts.{line_verdict-right}
 use Rattle.lpres_reader.specs.Verdicts.{line_verdict, next_verdict, kept_verdict, lines_verdict}
 

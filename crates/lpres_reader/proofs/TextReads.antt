@@ -10,7 +10,8 @@ use Rattle.lpres_reader.specs.Limits.{IsWithinLimits}
 use Rattle.lpres_reader.specs.Reads.{ReadsLine, IsGenerators, ReadsItems, Reads}
 use Rattle.lpres_reader.specs.Trials.{added}
 use Rattle.lpres_reader.proofs.AddedLaws.{within_before}
-use Rattle.lpres_reader.proofs.LineFaults.{Makes, MakesNames, MakesItem, added_names}
+use Rattle.lpres_reader.specs.Makes.{Makes, MakesNames, MakesItem}
+use Rattle.lpres_reader.proofs.LineFaults.{added_names}
 use Rattle.lpres_reader.specs.Verdicts.{bare}
 use Rattle.lpres_reader.proofs.TextLines.{unskipped, generators_begin, HasLine, has_later}
 use Rattle.lpres_reader.proofs.TextChains.{Chain, done, skips, reads}

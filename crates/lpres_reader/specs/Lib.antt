@@ -9,6 +9,7 @@ pub mod Parser
 pub mod Trials
 pub mod Faults
 pub mod Verdicts
+pub mod Makes
 pub mod TriedSoFar
 pub mod ReaderLaws
 pub mod Narrow

@@ -1,9 +1,11 @@
--- Why a text is not read, where a word in it is refused.
-use Rattle.free_words.specs.declared.refusal.WordRefusal.{WordRefusal}
-use Rattle.free_words.specs.declared.refusal.WordRefusal.TheVariants as word
+-- Why a text is not read, as the reader tells it.
+use Rattle.std.specs.Prelude.{ℕ, List}
 use Rattle.lpres_reader.specs.declared.refusal.ReadRefusal.{ReadRefusal}
-use Rattle.lpres_reader.specs.declared.refusal.ReadRefusal.TheVariants.{NotBuilt, NoMemory}
+use Rattle.lpres_reader.specs.declared.refusal.ReadRefusal.TheVariants.{Text, NoMemory}
+use Rattle.lpres_reader.specs.Faults.{FirstFault}
+use Rattle.lpres_reader.specs.Stops.{kind_of}
 
-abbrev pub refusal_of : WordRefusal → ReadRefusal
-refusal_of (word.TooLong n) = NotBuilt
-refusal_of word.NoMemory = NoMemory
+-- the text's first fault, or want of memory
+abbrev pub IsRefusedBy : List ℕ → ReadRefusal → Type 0
+IsRefusedBy text (Text fault) = FirstFault text fault.line (kind_of fault.kind)
+IsRefusedBy text NoMemory = Unit {0}

@@ -48,6 +48,15 @@ pub enum Kind {
     NotAllImages,
 }
 
+/// The first fault of a text.
+#[derive(Clone, Copy, Debug, PartialEq, Eq)]
+pub struct TextFault {
+    /// The line, counted from 1.
+    pub line: u32,
+    /// What is wrong with it.
+    pub kind: Kind,
+}
+
 /// Why a line is not read.
 #[derive(Clone, Copy, Debug, PartialEq, Eq)]
 pub enum Stop {

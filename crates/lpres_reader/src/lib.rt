@@ -1,13 +1,14 @@
 //! Reads L-presentations from text. What a text means is a relation in `specs/`, and a text is read exactly where it
-//! means a presentation and has the form that is built.
+//! means a presentation; any other text is refused by its first fault.
 #![tactic(auto)]
 
 mod depth;
 mod exponent;
-pub mod fault;
-pub mod gathered;
-pub mod images;
-pub mod item;
+mod fault;
+mod gathered;
+mod generators;
+mod images;
+mod item;
 mod known;
 pub mod laws;
 mod line;
@@ -16,11 +17,10 @@ mod products;
 mod reading;
 mod refusal;
 mod syntax;
-#[cfg(test)]
-mod tests;
 mod token;
 mod value;
 
+pub use fault::{Kind, TextFault, Which};
 pub use presentation::LPres;
 pub use reading::read;
 pub use refusal::ReadRefusal;

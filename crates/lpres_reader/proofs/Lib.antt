@@ -51,3 +51,7 @@ pub mod KnownRuns
 pub mod ItemReads
 pub mod EndoLetters
 pub mod ImageArrows
+pub mod MeaningLetters
+pub mod AddedLetters
+pub mod ItemMakes
+pub mod Adding

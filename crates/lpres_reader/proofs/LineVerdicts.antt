@@ -70,7 +70,7 @@ names_formed line shallow (Some names) f =
 abbrev ItemRight : LPresentation → List ℕ → ItemTree → Result LPresentation Kind → Type 0
 ItemRight M line i r = MatchResult r (MakesItem M line) (ItemFault M i)
 
-item_gives : (M : LPresentation) (line : List ℕ) (i : ItemTree) → AreDistinct M.names → IsWithinLimits M → IsShallow line → ReadsTokens line (item_tokens i)
+pub item_gives : (M : LPresentation) (line : List ℕ) (i : ItemTree) → AreDistinct M.names → IsWithinLimits M → IsShallow line → ReadsTokens line (item_tokens i)
     → AreKnown M.names (body_tokens i) → AreKept (item_trials M i) → (g : GivesAll M.names i) → MakesItem M line (added M (item_meaning M.names i g))
 item_gives M line i distinct within shallow d known all g =
     let parts = within_added M i g distinct within all in

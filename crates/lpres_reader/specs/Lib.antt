@@ -26,3 +26,4 @@ pub mod Arrows
 pub mod Values
 pub mod Meanings
 pub mod Passed
+pub mod Adds

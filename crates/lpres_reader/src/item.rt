@@ -97,5 +97,6 @@ pub fn read_item(alloc: Global, pres: &LPres, line: &[u8]) -> Result<Gathered, S
 pub fn read_behind(alloc: Global, pres: LPres, line: &[u8]) -> Result<LPres, Stop>
     ensures { MatchResult result (Makes (Some pres) line.now) (Refuses (λ k. LineFault (Some pres) line.now (kind_of k))) }
 {
-    Err(Stop::NoMemory)
+    let gathered = read_item(alloc, &pres, line)?;
+    pres.with(alloc, gathered)
 }

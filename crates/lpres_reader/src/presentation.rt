@@ -1,13 +1,23 @@
 //! L-presentations as values.
 
-ghost use Rattle.std.specs.Prelude.{◌≡◌, ◌≤◌, length, map};
+ghost use Rattle.std.specs.Prelude.{◌≡◌, ◌≤◌, length, map, MatchResult};
 ghost use Rattle.pq_base.specs.LPresentation.{LPresentation, IsLPresentation};
+ghost use Rattle.lpres_reader.specs.declared.fault.Kind.TheVariants.{NotAllImages as MissesImages};
+ghost use Rattle.lpres_reader.specs.declared.fault.Stop.TheVariants.{NoMemory as WantOfMemory};
+ghost use Rattle.lpres_reader.specs.Adds.{Adds, AddsNothing, AddsSoundly};
+ghost use Rattle.lpres_reader.specs.Items.{fixed, iterated, endo};
 ghost use Rattle.lpres_reader.specs.Limits.{IsWithinLimits, letters_in, total_letters};
 ghost use Rattle.lpres_reader.specs.Presentations.{made_of, endo_letters, AreGenerators};
+ghost use Rattle.lpres_reader.specs.Stops.{Refuses};
+ghost use Rattle.lpres_reader.specs.Trials.{added};
 
+use crate::fault::{Stop, Which};
+use crate::gathered::Gathered;
+use crate::images::images;
 use free_words::Word;
 use indexmap::IndexSet;
 use pq_base::Name;
+use std::alloc::Global;
 use std::marker::Model;
 
 /// An L-presentation within the limits: names of generators, relators, and endomorphisms as the images of the
@@ -51,6 +61,69 @@ impl LPres {
             iterated,
             endos,
         }
+    }
+
+    /// The presentation with what a line gives behind it.
+    pub(crate) fn with(self, alloc: Global, gathered: Gathered) -> Result<LPres, Stop>
+        requires { AddsSoundly self gathered }
+        ensures { MatchResult result (Adds self gathered) (Refuses (λ k. (k ≡ MissesImages) × AddsNothing self gathered)) }
+    {
+        match gathered.which() {
+            Which::Fixed => self.with_fixed(gathered.into_relators()),
+            Which::Iterated => self.with_iterated(gathered.into_relators()),
+            _ => {
+                let images = images(alloc, self.names().len(), gathered.arrows())?;
+                self.with_endo(images)
+            }
+        }
+    }
+
+    /// The presentation with more fixed relators.
+    fn with_fixed(self, mut relators: Vec<Word>) -> Result<LPres, Stop>
+        requires presentation { IsLPresentation (added self (fixed relators.items)) }
+        requires limits { IsWithinLimits (added self (fixed relators.items)) }
+        ensures { MatchResult result (λ pres. pres ≡ added self (fixed relators.items)) (λ e. e ≡ WantOfMemory) }
+    {
+        let mut fixed = self.fixed;
+        fixed.append(&mut relators)?;
+        Ok(LPres {
+            names: self.names,
+            fixed,
+            iterated: self.iterated,
+            endos: self.endos,
+        })
+    }
+
+    /// The presentation with more iterated relators.
+    fn with_iterated(self, mut relators: Vec<Word>) -> Result<LPres, Stop>
+        requires presentation { IsLPresentation (added self (iterated relators.items)) }
+        requires limits { IsWithinLimits (added self (iterated relators.items)) }
+        ensures { MatchResult result (λ pres. pres ≡ added self (iterated relators.items)) (λ e. e ≡ WantOfMemory) }
+    {
+        let mut iterated = self.iterated;
+        iterated.append(&mut relators)?;
+        Ok(LPres {
+            names: self.names,
+            fixed: self.fixed,
+            iterated,
+            endos: self.endos,
+        })
+    }
+
+    /// The presentation with one endomorphism more.
+    fn with_endo(self, images: Vec<Word>) -> Result<LPres, Stop>
+        requires presentation { IsLPresentation (added self (endo images.items)) }
+        requires limits { IsWithinLimits (added self (endo images.items)) }
+        ensures { MatchResult result (λ pres. pres ≡ added self (endo images.items)) (λ e. e ≡ WantOfMemory) }
+    {
+        let mut endos = self.endos;
+        endos.push(images)?;
+        Ok(LPres {
+            names: self.names,
+            fixed: self.fixed,
+            iterated: self.iterated,
+            endos,
+        })
     }
 
     /// The names of the generators, in order.

@@ -7,7 +7,7 @@ ghost use Rattle.free_words.specs.Gives.{Gives};
 
 use crate::pieces::{push_copies, push_inverse};
 use crate::refusal::WordRefusal;
-use crate::word::{Word, room_for};
+use crate::word::{Word, check_length, room_for};
 use pq_base::NoMemory;
 use std::alloc::Global;
 
@@ -19,6 +19,17 @@ pub fn product(alloc: Global, u: &Word, v: &Word) -> Result<Word, WordRefusal>
     let mut letters = room_for(alloc, (left.len() + right.len()) as u64)?;
     letters.extend_from_slice(left)?;
     letters.extend_from_slice(right)?;
+    Ok(Word::from_vec(letters))
+}
+
+/// The same of a word that grows in place: the time of many calls is in proportion to the letters that are added.
+pub fn extended(u: Word, v: &Word) -> Result<Word, WordRefusal>
+    ensures { Gives result (u ++ v.now) }
+{
+    let mut letters = u.into_vec();
+    let more = v.letters();
+    check_length((letters.len() + more.len()) as u64)?;
+    letters.extend_from_slice(more)?;
     Ok(Word::from_vec(letters))
 }
 

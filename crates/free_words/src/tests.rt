@@ -1,5 +1,6 @@
 use crate::{
-    Word, WordRefusal, commutator, conjugate, inverse, power, product, reduce_free, substitute,
+    Word, WordRefusal, commutator, conjugate, extended, inverse, power, product, reduce_free,
+    substitute,
 };
 
 #[test]
@@ -16,6 +17,19 @@ fn products_and_their_reduction(rt: HostRuntime) -> Result<(), WordRefusal> {
     assert_eq!(rt; w.letters(), [1, 2, -2].as_slice());
     assert_eq!(rt; w.duplicate()?.letters(), [1, 2, -2].as_slice());
     assert_eq!(rt; reduce_free(alloc, &w)?.letters(), [1].as_slice());
+    Ok(())
+}
+
+#[test]
+fn words_that_grow(rt: HostRuntime) -> Result<(), WordRefusal> {
+    let alloc = rt.alloc();
+    let w = extended(Word::of(alloc, &[1, 2])?, &Word::of(alloc, &[-2, 3])?)?;
+    assert_eq!(rt; w.letters(), [1, 2, -2, 3].as_slice());
+    let most = power(alloc, &w, 16_384)?;
+    assert_eq!(rt;
+        extended(most, &w).err(),
+        Some(WordRefusal::TooLong(65_540))
+    );
     Ok(())
 }
 

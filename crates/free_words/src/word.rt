@@ -1,6 +1,7 @@
 //! Words as values.
 
-ghost use Rattle.std.specs.Prelude.{◌≡◌, ◌≤◌, ℤ, List, length, [], IfOk};
+ghost use Rattle.std.specs.Prelude.{◌≡◌, ◌<◌, ◌≤◌, ℤ, List, length, [], IfOk, MatchResult};
+ghost use Rattle.free_words.specs.declared.refusal.WordRefusal.TheVariants.{TooLong as TooManyLetters};
 ghost use Rattle.free_words.specs.Letters.{AreLetters, IsWord};
 ghost use Rattle.free_words.specs.Gives.{Gives, GivesRoom};
 
@@ -64,14 +65,31 @@ impl Word {
     {
         Word { letters }
     }
+
+    /// The letters of the word, without copying them.
+    pub(crate) fn into_vec(self) -> Vec<i32>
+        ensures value { result.items ≡ self }
+        ensures letters { AreLetters self }
+        ensures limit { length self ≤ 65536 }
+    {
+        self.letters
+    }
+}
+
+/// Refuses a word that would have too many letters.
+pub(crate) fn check_length(letters: u64) -> Result<(), WordRefusal>
+    ensures { MatchResult result (λ _. letters ≤ 65536) (λ e. (e ≡ TooManyLetters letters) × (65536 < letters)) }
+{
+    if letters > LETTERS as u64 {
+        return Err(WordRefusal::TooLong(letters));
+    }
+    Ok(())
 }
 
 /// An empty list with room for this many letters, if that isn't above the limit.
 pub(crate) fn room_for(alloc: Global, letters: u64) -> Result<Vec<i32>, WordRefusal>
     ensures { GivesRoom result letters }
 {
-    if letters > LETTERS as u64 {
-        return Err(WordRefusal::TooLong(letters));
-    }
+    check_length(letters)?;
     Ok(Vec::with_capacity(alloc, letters as usize)?)
 }

@@ -3,8 +3,8 @@ use Rattle.std.proofs.Common.{◌≡◌, ℤ, List, length, refl, ap, sym, subst
 use Rattle.pq_base.specs.LPresentation.{LPresentation}
 use Rattle.lpres_reader.specs.declared.fault.Which.{Which}
 use Rattle.lpres_reader.specs.declared.fault.Which.TheVariants as which
-use Rattle.lpres_reader.specs.Adds.{AddsAs, Adds, AddsNothing}
-use Rattle.lpres_reader.specs.Arrows.{mappings, GivesNone}
+use Rattle.lpres_reader.specs.Adds.{AddsAs, Adds}
+use Rattle.lpres_reader.specs.Arrows.{mappings}
 use Rattle.lpres_reader.specs.Gatherings.{Gathering}
 use Rattle.lpres_reader.specs.Items.{GivesEach, fixed, iterated, endo}
 use Rattle.lpres_reader.specs.Trials.{added}
@@ -27,18 +27,5 @@ module _ (M : LPresentation) (g : Gathering) where
   images_added which.Letters h k f e = (f, e, refl)
   images_added which.Total h k f e = (f, e, refl)
 
-  nothing_added : (w : Which) → ¬ (w ≡ which.Fixed) → ¬ (w ≡ which.Iterated) → GivesNone (length M.names) (mappings g.arrows) → (L : LPresentation) → ¬ AddsAs w M g L
-  nothing_added which.Fixed h k never L e = h refl
-  nothing_added which.Iterated h k never L e = k refl
-  nothing_added which.Name h k never L e = never e.0 e.1
-  nothing_added which.Generators h k never L e = never e.0 e.1
-  nothing_added which.Endos h k never L e = never e.0 e.1
-  nothing_added which.Exponent h k never L e = never e.0 e.1
-  nothing_added which.Letters h k never L e = never e.0 e.1
-  nothing_added which.Total h k never L e = never e.0 e.1
-
   pub adds_images : ¬ (g.which ≡ which.Fixed) → ¬ (g.which ≡ which.Iterated) → (f : List (List ℤ)) → GivesEach (length M.names) (mappings g.arrows) f → Adds M g (added M (endo f))
   adds_images = images_added g.which
-
-  pub adds_nothing : ¬ (g.which ≡ which.Fixed) → ¬ (g.which ≡ which.Iterated) → GivesNone (length M.names) (mappings g.arrows) → AddsNothing M g
-  adds_nothing = nothing_added g.which

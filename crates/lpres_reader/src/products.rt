@@ -7,7 +7,7 @@ ghost use Rattle.lpres_reader.specs.Values.{Given, fits, raised, signed};
 
 use crate::exponent::size_of;
 use crate::fault::{Kind, Stop, Which};
-use free_words::{Word, commutator, conjugate, inverse, power, product};
+use free_words::{Word, commutator, conjugate, extended, inverse, power, product};
 use pq_base::limits::EXPONENT;
 use std::alloc::Global;
 
@@ -22,11 +22,18 @@ pub(crate) fn letter(alloc: Global, place: Option<usize>) -> Result<Word, Stop>
     }
 }
 
-/// The product of factors so far with one more.
-pub(crate) fn joined(alloc: Global, before: Word, factor: &Word) -> Result<Word, Stop>
+/// The product of factors so far with one more, which grows in place.
+pub(crate) fn joined(before: Word, factor: &Word) -> Result<Word, Stop>
     ensures { Given result (fits (before ++ factor.now)) }
 {
-    Ok(product(alloc, &before, factor)?)
+    Ok(extended(before, factor)?)
+}
+
+/// The product of factors so far with the last one, in no more memory than its letters take.
+pub(crate) fn joined_last(alloc: Global, before: &Word, factor: &Word) -> Result<Word, Stop>
+    ensures { Given result (fits (before.now ++ factor.now)) }
+{
+    Ok(product(alloc, before, factor)?)
 }
 
 /// The conjugate of a word.

@@ -10,7 +10,7 @@ ghost use Rattle.lpres_reader.specs.Values.{Given, no_form, value, behind_unit, 
 use crate::fault::{Kind, Stop};
 use crate::gathered::Gathered;
 use crate::known::place_of;
-use crate::products::{commuted, conjugated, equated, joined, letter, raised};
+use crate::products::{commuted, conjugated, equated, joined, joined_last, letter, raised};
 use crate::token::{Symbol, Token};
 use free_words::Word;
 use indexmap::IndexSet;
@@ -375,11 +375,11 @@ fn behind_step(
     match token {
         Token::Symbol(Symbol::Caret) => Ok(value_at(Stage::Caret(before, factor), around)),
         Token::Symbol(Symbol::Star) => {
-            let word = joined(alloc, before, &factor)?;
+            let word = joined(before, &factor)?;
             Ok(value_at(Stage::Before(word), around))
         }
         Token::Symbol(symbol) => {
-            let word = joined(alloc, before, &factor)?;
+            let word = joined_last(alloc, &before, &factor)?;
             word_step(alloc, around, word, symbol)
         }
         _ => no_form(),
@@ -562,7 +562,7 @@ pub(crate) fn end(alloc: Global, so_far: Value) -> Result<Gathered, Stop>
     let Value { stage, around } = so_far;
     match stage {
         Stage::Behind(before, factor) => {
-            let word = joined(alloc, before, &factor)?;
+            let word = joined_last(alloc, &before, &factor)?;
             word_end(alloc, around, word)
         }
         _ => no_form(),

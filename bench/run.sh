@@ -1,0 +1,58 @@
+#!/usr/bin/env bash
+# Times and memory of the built programs. Run `rt ci` first, or `rt run` in the crates of the programs.
+set -eu
+cd "$(dirname "$0")/.."
+work=$(mktemp -d)
+trap 'rm -rf "$work"' EXIT
+engine=crates/pquotient/out/pquotient
+measured=crates/pq_bench/out/pq_bench
+
+# seconds COMMAND..: the least of five runs
+seconds() {
+    for _ in 1 2 3 4 5; do
+        /usr/bin/time -f '%e' -o "$work/time" "$@" >/dev/null
+        cat "$work/time"
+    done | sort -n | head -1
+}
+
+# kilobytes COMMAND..: the peak memory
+kilobytes() {
+    /usr/bin/time -f '%M' -o "$work/memory" "$@" >/dev/null
+    cat "$work/memory"
+}
+
+ratio() {
+    awk -v a="$1" -v b="$2" 'BEGIN { printf "%.2f\n", a / (b > 0.005 ? b : 0.005) }'
+}
+
+reader() {
+    # 4,096 relators of 1,020 bytes and 510 letters each
+    awk 'BEGIN { print "generators x y"; for (i = 0; i < 4096; i++) { line = "fixed x"; for (k = 0; k < 254; k++) line = line "*y*x"; print line } }' >"$work/long"
+    # one line of blanks
+    head -c 4194304 /dev/zero | tr '\0' ' ' >"$work/blanks"
+    # one relator of 65,536 letters, and a name of a mebibyte
+    awk 'BEGIN { line = "fixed x"; for (k = 1; k < 65536; k++) line = line "*x"; print "generators x"; print line }' >"$work/letters"
+    awk 'BEGIN { name = "x"; for (k = 0; k < 20; k++) name = name name; print "generators x"; print "fixed " name }' >"$work/name"
+    for text in long blanks letters name; do
+        bytes=$(wc -c <"$work/$text")
+        words=$(seconds wc -w "$work/$text")
+        read=$(seconds sh -c "$engine quotient 2 1 <'$work/$text' || true")
+        peak=$(kilobytes sh -c "$engine quotient 2 1 <'$work/$text' || true")
+        echo "reader $text: $bytes bytes, $read s, wc -w $words s, ratio $(ratio "$read" "$words"), peak $peak kB"
+    done
+}
+
+rows() {
+    rustc -O -o "$work/rows" bench/rows.rs
+    ours=$(seconds "$measured" rows 1000000)
+    theirs=$(seconds "$work/rows" 1000000)
+    echo "rows: 10^6 sums of width 5,082 modulo 7 in $ours s, rustc -O $theirs s, ratio $(ratio "$ours" "$theirs")"
+}
+
+basis() {
+    echo "basis: 2,000 rows of width 2,000 modulo 3 in $(seconds "$measured" basis 2000) s, peak $(kilobytes "$measured" basis 2000) kB (rows and coefficients are 7,813 kB)"
+}
+
+reader
+rows
+basis

@@ -13,6 +13,11 @@ pub mod NamesLaws
 pub mod FaultLaws
 pub mod FirstPassed
 pub mod LineSteps
+pub mod GeneratorLines
+pub mod LineTexts
+pub mod SeenTexts
+pub mod NamesSoFar
+pub mod FirstLines
 pub mod TriedFirst
 pub mod Decisions
 pub mod LineFaults
@@ -46,6 +51,7 @@ pub mod GatheredSteps
 pub mod StateTrials
 pub mod ValueSteps
 pub mod Refusing
+pub mod HandedOn
 pub mod ValueEnds
 pub mod KnownRuns
 pub mod ItemReads

@@ -10,6 +10,7 @@ pub mod Trials
 pub mod Faults
 pub mod Verdicts
 pub mod Makes
+pub mod GeneratorNames
 pub mod TriedSoFar
 pub mod ReaderLaws
 pub mod Narrow

@@ -27,6 +27,8 @@ pub mod TextLines
 pub mod TextChains
 pub mod TextReads
 pub mod ReaderLaws
+pub mod TextRuns
+pub mod GeneratorSearch
 pub mod vectors
 pub mod Leads
 pub mod LineTokens

@@ -18,6 +18,7 @@ pub mod Front
 pub mod Left
 pub mod Presentations
 pub mod Refusals
+pub mod NextLine
 pub mod PlainLines
 pub mod Stops
 pub mod Forms

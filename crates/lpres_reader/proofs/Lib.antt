@@ -32,14 +32,7 @@ pub mod GeneratorSearch
 pub mod vectors
 pub mod Leads
 pub mod LineTokens
-pub mod PlainNames
 pub mod KeptNames
-pub mod PlainGenerators
-pub mod PlainRelators
-pub mod NarrowForms
-pub mod ShallowLines
-pub mod PlainTexts
-pub mod NarrowTexts
 pub mod Samples
 pub mod FormSteps
 pub mod StepRuns

@@ -13,13 +13,10 @@ pub mod Makes
 pub mod GeneratorNames
 pub mod TriedSoFar
 pub mod ReaderLaws
-pub mod Narrow
 pub mod Front
-pub mod Left
 pub mod Presentations
 pub mod Refusals
 pub mod NextLine
-pub mod PlainLines
 pub mod Stops
 pub mod Forms
 pub mod Gatherings

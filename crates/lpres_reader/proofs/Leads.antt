@@ -1,7 +1,6 @@
 -- Reading from the left: R says what a whole can be read as, a list. Up to a rest the whole is read as front, where it
 -- is front and what the rest is, whatever that is, and nothing else.
 use Rattle.std.proofs.Common.{◌≡◌, List, [], ◌∷◌, ◌++◌, refl, sym, ap, subst, ◌∙◌, append_assoc}
-use Rattle.std.proofs.lemmas.List.{append-nil}
 
 pub record Leads {A B : Type 0} (R : A → List B → Type 0) (whole : A) (front : List B) (rest : A) : Type 0 where
   pub from : (xs : List B) → R rest xs → R whole (front ++ xs)
@@ -19,7 +18,3 @@ leads_on {B = B} R whole rest next front x far one = record {
       let b = one.to a.0 a.2 in
       (b.0, a.1 ∙ ap (λ (ys : List B). front ++ ys) b.1 ∙ sym (append_assoc front (x ∷ []) b.0), b.2);
 }
-
--- to a rest that is read as nothing
-pub leads_to_end : {A B : Type 0} (R : A → List B → Type 0) (whole rest : A) (front : List B) → Leads R whole front rest → R rest [] → R whole front
-leads_to_end R whole rest front far end = subst (R whole) (append-nil front) (far.from [] end)

@@ -1,14 +1,14 @@
 -- Blanks at the front of a line change neither whether it is skipped nor its first token, and a text is its first line
 -- and the lines behind the first newline.
-use Rattle.std.proofs.Common.{◌≡◌, ℕ, suc, ◌+◌, ◌-◌, ◌<◌, ◌≤◌, Bool, true, false, cond, eqb, ltb, not, List, [], ◌∷◌, length, get_or, take, drop, refl, sym, ap, subst, ◌∙◌, arith, Some, None}
-use Rattle.std.specs.List.{prefix_len, position, position_or_len, filter}
+use Rattle.std.proofs.Common.{◌≡◌, ℕ, suc, ◌+◌, ◌-◌, ◌<◌, ◌≤◌, Bool, true, false, cond, eqb, ltb, List, [], ◌∷◌, length, get_or, take, drop, refl, sym, ap, subst, ◌∙◌, arith, Some, None}
+use Rattle.std.specs.List.{prefix_len, position, position_or_len}
 use Rattle.std.proofs.lemmas.Bool.{ltb-true}
 use Rattle.std.proofs.lemmas.List.{take_all}
 use Rattle.std.proofs.lemmas.Option.{cond_some}
 use Rattle.std.proofs.lemmas.List.Sums.{prefix_len-le-length}
 use Rattle.std.proofs.lemmas.List.Splits.{slice_split_none, slice_split_first}
 use Rattle.lpres_reader.proofs.Positions.{position-none}
-use Rattle.lpres_reader.specs.Lines.{is_blank, is_skipped, lines_of, content_of}
+use Rattle.lpres_reader.specs.Lines.{is_blank, is_skipped, lines_of}
 use Rattle.lpres_reader.specs.Front.{Front, line_end, front_at, front_of}
 
 pub prefix_le : (test : ℕ → Bool) (line : List ℕ) → prefix_len test line ≤ length line
@@ -56,15 +56,6 @@ lines_of-first text at e =
     let found = cond_some (ltb n (length text)) n at e in
     let short : n < length text = ltb-true n (length text) found.0 in
     subst (λ (k : ℕ). (lines_of text ≡ take k text ∷ lines_of (drop (k + 1) text)) × (k < length text)) found.1 (slice_split_first is_newline text 0 short, short)
-
--- the lines that are not skipped, of a text of which the first line is cut off
-pub content_of-skipped : (text line : List ℕ) (others : List (List ℕ)) → lines_of text ≡ line ∷ others → is_skipped line ≡ true → content_of text ≡ filter (λ l. not (is_skipped l)) others
-content_of-skipped text line others e skip =
-    ap (filter (λ l. not (is_skipped l))) e ∙ ap (λ (b : Bool). cond (not b) (line ∷ filter (λ l. not (is_skipped l)) others) (filter (λ l. not (is_skipped l)) others)) skip
-
-pub content_of-kept : (text line : List ℕ) (others : List (List ℕ)) → lines_of text ≡ line ∷ others → is_skipped line ≡ false → content_of text ≡ line ∷ filter (λ l. not (is_skipped l)) others
-content_of-kept text line others e keep =
-    ap (filter (λ l. not (is_skipped l))) e ∙ ap (λ (b : Bool). cond (not b) (line ∷ filter (λ l. not (is_skipped l)) others) (filter (λ l. not (is_skipped l)) others)) keep
 
 -- what is seen past blanks, by cases on the line r without them
 pub skipped_nothing : (line r : List ℕ) → r ≡ without_blanks line → length r < 1 → true ≡ is_skipped line

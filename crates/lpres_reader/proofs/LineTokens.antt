@@ -1,5 +1,5 @@
 -- The first token of a line leads to what is behind it, and a line of blanks has none.
-use Rattle.std.proofs.Common.{◌≡◌, ℕ, List, [], ◌∷◌, Option, Some, None, MatchOption, Result, Ok, Err, refl, sym, subst, ◌∙◌}
+use Rattle.std.proofs.Common.{◌≡◌, ℕ, List, [], ◌∷◌, Option, Some, None, MatchOption, refl, sym, subst, ◌∙◌}
 use Rattle.lpres_reader.specs.Tokens.{Token, ReadsTokens}
 use Rattle.lpres_reader.specs.Front.{Front, line_end, no_token, token_first, front_of}
 use Rattle.lpres_reader.proofs.FrontLemmas.{Follows, follows, tells}
@@ -28,5 +28,6 @@ pub none_left : {A : Type 0} (o : Option A) (P : Type 0) (Q : A → Type 0) → 
 none_left None P Q no_some h = h
 none_left (Some x) P Q no_some h = absurd (no_some x refl)
 
-pub same_error : {T E : Type 0} (r : Result T E) (a b : E) → r ≡ Err a → r ≡ Err b → a ≡ b
-same_error r a b e f = let g = sym e ∙ f in cc
+-- lists that are the same begin alike and go on alike
+pub same_first : {X : Type 0} (x y : X) (xs ys : List X) → x ∷ xs ≡ y ∷ ys → (x ≡ y) × (xs ≡ ys)
+same_first x y xs ys e = (cc, cc)

@@ -1,5 +1,5 @@
 -- Tokens are those of at most one list of names, and there is such a list or there is none.
-use Rattle.std.proofs.Common.{◌≡◌, ◌≤◌, ℕ, List, [], ◌∷◌, length, bytes_eq, codes, Option, Some, None, option_map, MatchOption, refl, sym, ap, subst, ◌∙◌, arith}
+use Rattle.std.proofs.Common.{◌≡◌, ◌≤◌, ℕ, List, [], ◌∷◌, map, length, bytes_eq, codes, Option, Some, None, option_map, MatchOption, refl, sym, ap, subst, ◌∙◌, arith}
 use Rattle.std.proofs.lemmas.Bool.{true≢false, cond_both}
 use Rattle.std.proofs.lemmas.Slice.Eq.{bytes_eq-Decides}
 use Rattle.lpres_reader.specs.declared.token.Symbol.TheVariants.{Comma}
@@ -46,6 +46,20 @@ names_right ts = by (names_of ts) refl
     by : (o : Option (List (List ℕ))) → names_of ts ≡ o → MatchOption o ((ns : List (List ℕ)) → ReadsNames ts ns → ⊥) (ReadsNames ts)
     by (Some ns) e = subst (λ (p : Option (List (List ℕ))). AreNamesOf p ts) e (reads-names_of ts)
     by None e = λ ns d. let found : None ≡ Some ns = sym e ∙ names_of-reads d in cc
+
+-- names without commas are these names alone
+pub names_are : {ts : List Token} {ns : List (List ℕ)} → ReadsNames ts ns → (ms : List (List ℕ)) → ts ≡ map name ms → ns ≡ ms
+names_are (last_name n) [] e = absurd cc
+names_are (last_name n) (m ∷ []) e = let same : n ≡ m = cc in ap (λ (x : List ℕ). x ∷ []) same
+names_are (last_name n) (m ∷ k ∷ ms) e = absurd cc
+names_are (next_name n d) [] e = absurd cc
+names_are (next_name {ns = ns} n d) (m ∷ ms) e =
+    let same : n ≡ m = cc in
+    let others = names_are d ms cc in
+    cc
+names_are (next_name_after_comma n d) [] e = absurd cc
+names_are (next_name_after_comma n d) (m ∷ []) e = absurd cc
+names_are (next_name_after_comma n d) (m ∷ k ∷ ms) e = absurd cc
 
 -- lines of generators
 pub generators_unique : (ns ms : List (List ℕ)) (tokens : List Token) → IsGenerators ns tokens → IsGenerators ms tokens → ns ≡ ms

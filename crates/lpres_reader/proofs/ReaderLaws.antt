@@ -18,7 +18,7 @@ use Rattle.lpres_reader.proofs.TextReads.{unskipped-skip, unskipped-keep, ReadsL
 chain_of : (text : List ℕ) (L : LPresentation) → Reads text L → Chain None (lines_of text) (Some L)
 chain_of text L r = chain_from_lines (lines_of text) L (lines_from_reads text L r)
 
-reads_of : (text : List ℕ) (L : LPresentation) → Chain None (lines_of text) (Some L) → Reads text L
+pub reads_of : (text : List ℕ) (L : LPresentation) → Chain None (lines_of text) (Some L) → Reads text L
 reads_of text L c = reads_from_lines text L (lines_from_chain c L refl refl)
 
 -- the lines before a line of a text
@@ -27,19 +27,19 @@ chain_before text before after None e h = chain_from_nothing before (sym (conten
 chain_before text before after (Some M) e h =
     chain_from_lines before M (subst (λ (content : List (List ℕ)). ReadsLines content M) (content_of-front text before after e) (lines_from_reads (text_of before) M h))
 
-are_before : (text : List ℕ) (before after : List (List ℕ)) (m : Option LPresentation) → lines_of text ≡ before ++ after → Chain None before m → Are before m
+pub are_before : (text : List ℕ) (before after : List (List ℕ)) (m : Option LPresentation) → lines_of text ≡ before ++ after → Chain None before m → Are before m
 are_before text before after None e c = content_of-front text before after e ∙ nothing_from_chain c refl refl
 are_before text before after (Some M) e c =
     reads_from_lines (text_of before) M (subst (λ (content : List (List ℕ)). ReadsLines content M) (sym (content_of-front text before after e)) (lines_from_chain c M refl refl))
 
-has_generators : (text : List ℕ) → HasLine (lines_of text) → HasGenerators text
+pub has_generators : (text : List ℕ) → HasLine (lines_of text) → HasGenerators text
 has_generators text h = record { before = h.before; line = h.line; after = h.after; lines = h.place; begins = h.begins }
 
-has_line : (text : List ℕ) → HasGenerators text → HasLine (lines_of text)
+pub has_line : (text : List ℕ) → HasGenerators text → HasLine (lines_of text)
 has_line text h = record { before = h.before; line = h.line; after = h.after; place = h.lines; begins = h.begins }
 
 -- lines with one that is not skipped are not nothing
-unskipped_some : (before : List (List ℕ)) (line : List ℕ) (after : List (List ℕ)) → is_skipped line ≡ false → unskipped (before ++ line ∷ after) ≡ [] → ⊥
+pub unskipped_some : (before : List (List ℕ)) (line : List ℕ) (after : List (List ℕ)) → is_skipped line ≡ false → unskipped (before ++ line ∷ after) ≡ [] → ⊥
 unskipped_some [] line after keep e = let same : line ∷ unskipped after ≡ [] = sym (unskipped-keep line after keep) ∙ e in cc
 unskipped_some (b ∷ before) line after keep e = elim (cases_Bool (is_skipped b)) [
   | inl skip ↦ unskipped_some before line after keep (sym (unskipped-skip b (before ++ line ∷ after) skip) ∙ e)

@@ -17,9 +17,8 @@ use Rattle.lpres_reader.specs.Limits.{AreShort}
 use Rattle.lpres_reader.specs.Reads.{Reads}
 use Rattle.lpres_reader.specs.Front.{token_first, front_of}
 use Rattle.lpres_reader.proofs.FrontLemmas.{tokens_unique}
-use Rattle.lpres_reader.proofs.LineTokens.{token_leads, ends_here}
-use Rattle.lpres_reader.proofs.NarrowForms.{names_are}
-use Rattle.lpres_reader.proofs.NarrowTexts.{same_first}
+use Rattle.lpres_reader.proofs.LineTokens.{token_leads, ends_here, same_first}
+use Rattle.lpres_reader.proofs.NamesLaws.{names_are}
 
 -- the tokens of a line, one after the other
 next : (line rest : List ℕ) (t : Token) (ts : List Token) → front_of line ≡ token_first t rest → ReadsTokens rest ts → ReadsTokens line (t ∷ ts)

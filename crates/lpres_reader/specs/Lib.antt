@@ -10,14 +10,13 @@ pub mod Trials
 pub mod Faults
 pub mod Verdicts
 pub mod Makes
+pub mod GeneratorNames
 pub mod TriedSoFar
 pub mod ReaderLaws
-pub mod Narrow
 pub mod Front
-pub mod Left
 pub mod Presentations
 pub mod Refusals
-pub mod PlainLines
+pub mod NextLine
 pub mod Stops
 pub mod Forms
 pub mod Gatherings

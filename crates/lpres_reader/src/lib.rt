@@ -17,6 +17,8 @@ mod products;
 mod reading;
 mod refusal;
 mod syntax;
+#[cfg(test)]
+mod tests;
 mod token;
 mod value;
 

@@ -1,9 +1,8 @@
 //! The lines of a text, and the blanks in a line.
 
-ghost use Rattle.std.specs.Prelude.{◌≡◌, ◌<◌, ◌≤◌, ◌==◌, [], ◌∷◌, length, drop, option_map, IfSome, MatchOption};
+ghost use Rattle.std.specs.Prelude.{◌≡◌, ◌<◌, ◌≤◌, ◌-◌, ◌^◌, ◌==◌, [], ◌∷◌, length, drop, count_by, IfSome, MatchOption};
 ghost use Rattle.std.specs.List.{prefix_len, position};
 ghost use Rattle.lpres_reader.specs.Lines.{is_blank, is_skipped, lines_of};
-ghost use Rattle.lpres_reader.specs.Left.{content_left, size_left};
 
 /// Whether a byte is a space, a tab or a carriage return.
 fn is_blank(byte: u8) -> bool
@@ -29,7 +28,7 @@ pub(crate) fn after_blanks(line: &[u8]) -> &[u8]
 }
 
 /// Whether a line is blank or a comment.
-fn is_skipped(line: &[u8]) -> bool
+pub(crate) fn is_skipped(line: &[u8]) -> bool
     ensures { result ≡ is_skipped line.now }
 {
     match after_blanks(line) {
@@ -45,7 +44,7 @@ fn first_newline(text: &[u8]) -> Option<usize>
 }
 
 /// The first line of a text, and what is behind its newline, where it has one.
-fn cut_line(text: &[u8]) -> (&[u8], Option<&[u8]>)
+pub(crate) fn cut_line(text: &[u8]) -> (&[u8], Option<&[u8]>)
     ensures lines { MatchOption result.1
         (lines_of text.now ≡ result.0.now ∷ [])
         (λ after. lines_of text.now ≡ result.0.now ∷ lines_of after.now) }
@@ -57,21 +56,17 @@ fn cut_line(text: &[u8]) -> (&[u8], Option<&[u8]>)
     }
 }
 
-/// The first line that is not skipped, and the text behind it, which may have no more lines.
-pub(crate) fn next_content(text: Option<&[u8]>) -> Option<(&[u8], Option<&[u8]>)>
-    ensures lines { let lines = content_left (option_map (λ t. t.now) text.entry) in MatchOption result
-        (lines ≡ [])
-        (λ found. lines ≡ found.0.now ∷ content_left (option_map (λ t. t.now) found.1)) }
-    ensures shorter { IfSome result (λ found.
-        size_left (option_map (λ t. t.now) found.1) < size_left (option_map (λ t. t.now) text.entry)) }
+fn newlines(text: &[u8]) -> usize
+    ensures count { result ≡ count_by (λ b. b == 10) text.now }
+    ensures within { result ≤ length text.now }
 {
-    let mut left = text;
-    while let Some(text) = left {
-        let (line, after) = cut_line(text);
-        if !is_skipped(line) {
-            return Some((line, after));
-        }
-        left = after;
-    }
-    None
+    text.iter().filter(|byte| **byte == b'\n').count()
+}
+
+/// How many lines a text has.
+pub(crate) fn line_count(text: &[u8]) -> u32
+    requires { length text.now < 2 ^ 32 - 1 }
+    ensures { result ≡ length (lines_of text.now) }
+{
+    newlines(text) as u32 + 1
 }

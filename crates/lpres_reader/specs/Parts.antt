@@ -13,12 +13,12 @@ MadeOfParts (Err Broken) L = ¬ (IsLPresentation L × IsWithinLimits L)
 MadeOfParts (Err NoMemory) L = Unit {0}
 
 -- as many generators, relators and endomorphisms as a presentation may have
-pub record AreFew (generators fixed iterated endos : ℕ) : Type 0 where
-  pub some_generator : 1 ≤ generators
-  pub generators : generators ≤ 32
-  pub fixed : fixed ≤ 4096
-  pub iterated : iterated ≤ 4096
-  pub endos : endos ≤ 16
+pub record AreFew (n f i e : ℕ) : Type 0 where
+  pub some_generator : 1 ≤ n
+  pub generators : n ≤ 32
+  pub fixed : f ≤ 4096
+  pub iterated : i ≤ 4096
+  pub endos : e ≤ 16
 
 -- words over n generators, which keep the limit on letters behind so many others
 pub record AreKeptWords (n before : ℕ) (ws : List (List ℤ)) : Type 0 where

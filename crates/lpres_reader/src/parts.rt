@@ -153,6 +153,7 @@ fn distinct_names(alloc: Global, names: Vec<Name>) -> Result<IndexSet<Name>, Par
 {
     let mut distinct = IndexSet::new(alloc);
     for name in names {
+        let _bytes = name.bytes();
         if !distinct.insert(name)? {
             return Err(PartsRefusal::Broken);
         }

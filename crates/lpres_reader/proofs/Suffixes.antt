@@ -46,6 +46,7 @@ module _ (endos : List (List (List ℤ))) (s : List ℕ) (w : List ℤ) where
         letters =
             let here : drop (length before) s ≡ e ∷ h.done = ap (drop (length before)) split_more ∙ drop-append_seam before (e ∷ h.done) in
             is ∙ ap length image_more ∙ ap (λ (t : List ℕ). length (along endos t w)) (sym here)
+
         shorter : (k : ℕ) → length before < k → letters_along endos s w k ≤ letter_limit
         shorter k l =
             let i = k - length before - 1 in

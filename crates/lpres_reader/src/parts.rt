@@ -13,7 +13,7 @@ use free_words::Word;
 use indexmap::IndexSet;
 use pq_base::Name;
 use pq_base::limits::{ENDOS, FIXED, GENERATORS, ITERATED, TOTAL};
-use std::alloc::{AllocError, AllocFailed, Global};
+use std::alloc::{AllocFailed, Global};
 use thiserror::Error;
 
 /// Why parts make no presentation.
@@ -25,14 +25,6 @@ pub enum PartsRefusal {
     /// Nothing could be allocated.
     #[error("no memory")]
     NoMemory,
-}
-
-impl From<AllocError> for PartsRefusal {
-    ghost from_gives = { λ _ e. e ≡ WantOfMemory };
-
-    fn from(_refused: AllocError) -> PartsRefusal {
-        PartsRefusal::NoMemory
-    }
 }
 
 impl<T: Drop> From<AllocFailed<T>> for PartsRefusal {
@@ -153,6 +145,7 @@ fn distinct_names(alloc: Global, names: Vec<Name>) -> Result<IndexSet<Name>, Par
 {
     let mut distinct = IndexSet::new(alloc);
     for name in names {
+        // that these are the bytes of a name
         let _bytes = name.bytes();
         if !distinct.insert(name)? {
             return Err(PartsRefusal::Broken);

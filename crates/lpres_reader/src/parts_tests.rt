@@ -43,13 +43,22 @@ fn refusal_of(
 
 /// Why these names of one letter each are refused.
 fn names_refusal(alloc: Global, letters: &[u8]) -> Result<Option<PartsRefusal>, WordRefusal> {
-    refusal_of(alloc, letters, Vec::new(alloc), Vec::new(alloc), Vec::new(alloc))
+    refusal_of(
+        alloc,
+        letters,
+        Vec::new(alloc),
+        Vec::new(alloc),
+        Vec::new(alloc),
+    )
 }
 
 /// Whether words are equal.
 fn are_equal(left: &[Word], right: &[Word]) -> bool {
     left.len() == right.len()
-        && left.iter().zip(right).all(|(u, v)| u.letters() == v.letters())
+        && left
+            .iter()
+            .zip(right)
+            .all(|(u, v)| u.letters() == v.letters())
 }
 
 #[test]
@@ -62,7 +71,10 @@ fn images_along_endomorphisms(rt: HostRuntime) -> Result<(), WordRefusal> {
     }
     assert_eq!(rt; along(alloc, &pres, &[], &w)?.letters(), [3].as_slice());
     assert_eq!(rt; along(alloc, &pres, &[1], &w)?.letters(), [3, 2].as_slice());
-    assert_eq!(rt; along(alloc, &pres, &[1, 1], &w)?.letters(), [3, 2, 2].as_slice());
+    assert_eq!(rt;
+        along(alloc, &pres, &[1, 1], &w)?.letters(),
+        [3, 2, 2].as_slice()
+    );
     Ok(())
 }
 
@@ -79,7 +91,10 @@ fn the_endomorphism_that_stands_last_is_applied_first(rt: HostRuntime) -> Result
     if pres.names().len() < 2 || pres.endos().len() < 2 {
         return Err(WordRefusal::NoMemory);
     }
-    assert_eq!(rt; along(alloc, &pres, &[1, 2], &w)?.letters(), [2, 2].as_slice());
+    assert_eq!(rt;
+        along(alloc, &pres, &[1, 2], &w)?.letters(),
+        [2, 2].as_slice()
+    );
     assert_eq!(rt; along(alloc, &pres, &[2, 1], &w)?.letters(), [2].as_slice());
     Ok(())
 }

@@ -1,4 +1,4 @@
-use Rattle.std.proofs.Common.{◌≡◌, ◌-◌, [], ◌∷◌, List, ℤ, get_or, map, length, ap, subst, sym, ◌∙◌}
+use Rattle.std.proofs.Common.{◌≡◌, [], ◌∷◌, List, ℤ, map, length, ap, subst, sym, ◌∙◌}
 use Rattle.pq_base.specs.LPresentation.{LPresentation, IsLPresentation, AreEndoNumbers, AreWords, endo_at}
 use Rattle.pq_base.proofs.AlongLaws.{AreWords-endo_at}
 use Rattle.lpres_reader.proofs.EndoPlaces.{length-endo_at, endo_at-place}

@@ -145,7 +145,7 @@ fn distinct_names(alloc: Global, names: Vec<Name>) -> Result<IndexSet<Name>, Par
 {
     let mut distinct = IndexSet::new(alloc);
     for name in names {
-        // that these are the bytes of a name
+        // says that it is a name, which the set has to keep
         let _bytes = name.bytes();
         if !distinct.insert(name)? {
             return Err(PartsRefusal::Broken);

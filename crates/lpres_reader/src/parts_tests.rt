@@ -1,3 +1,5 @@
+ghost use Rattle.free_words.specs.Letters.{AreLetters};
+
 use crate::{LPres, PartsRefusal, along};
 use free_words::{Word, WordRefusal};
 use pq_base::Name;
@@ -14,23 +16,38 @@ fn names_of(alloc: Global, letters: &[u8]) -> Result<Vec<Name>, WordRefusal> {
     Ok(names)
 }
 
-/// Three generators, a fixed relator, two iterated ones and an endomorphism.
-fn lamplighter(alloc: Global) -> Result<LPres, WordRefusal> {
-    let names = names_of(alloc, b"atu")?;
-    let fixed = vec![in alloc; Word::of(alloc, &[3, -2])?]?;
-    let square = Word::of(alloc, &[1, 1])?;
-    let commutator = Word::of(alloc, &[-1, -3, -1, 3, 1, -3, 1, 3])?;
-    let iterated = vec![in alloc; square, commutator]?;
-    let one = Word::of(alloc, &[1])?;
-    let two = Word::of(alloc, &[2])?;
-    let three = Word::of(alloc, &[3, 2])?;
-    let endo = vec![in alloc; one, two, three]?;
-    let endos = vec![in alloc; endo]?;
-    LPres::of(alloc, names, fixed, iterated, endos).map_err(|_| WordRefusal::NoMemory)
+/// Words with one more at the end.
+fn with(words: Vec<Word>, letters: &[i32]) -> Result<Vec<Word>, WordRefusal>
+    requires { AreLetters letters.now }
+{
+    let mut words = words;
+    words.push(Word::of(*words.allocator(), letters)?)?;
+    Ok(words)
 }
 
-/// Why these parts over names of one letter each are refused.
-fn refusal_of(
+/// Endomorphisms with one more at the end.
+fn with_endo(endos: Vec<Vec<Word>>, images: Vec<Word>) -> Result<Vec<Vec<Word>>, WordRefusal> {
+    let mut endos = endos;
+    endos.push(images)?;
+    Ok(endos)
+}
+
+/// The presentation of these parts, which keep what it keeps.
+fn made(
+    alloc: Global,
+    letters: &[u8],
+    fixed: Vec<Word>,
+    iterated: Vec<Word>,
+    endos: Vec<Vec<Word>>,
+) -> Result<LPres, WordRefusal> {
+    match LPres::of(alloc, names_of(alloc, letters)?, fixed, iterated, endos) {
+        Ok(pres) => Ok(pres),
+        Err(_) => Err(WordRefusal::NoMemory),
+    }
+}
+
+/// Why these parts are refused.
+fn refusal(
     alloc: Global,
     letters: &[u8],
     fixed: Vec<Word>,
@@ -41,14 +58,41 @@ fn refusal_of(
     Ok(LPres::of(alloc, names, fixed, iterated, endos).err())
 }
 
-/// Why these names of one letter each are refused.
+/// Why these names are refused.
 fn names_refusal(alloc: Global, letters: &[u8]) -> Result<Option<PartsRefusal>, WordRefusal> {
-    refusal_of(
+    refusal(
         alloc,
         letters,
         Vec::new(alloc),
         Vec::new(alloc),
         Vec::new(alloc),
+    )
+}
+
+/// Why an endomorphism with this one image is refused.
+fn image_refusal(
+    alloc: Global,
+    letters: &[u8],
+    image: &[i32],
+) -> Result<Option<PartsRefusal>, WordRefusal>
+    requires { AreLetters image.now }
+{
+    let endos = with_endo(Vec::new(alloc), with(Vec::new(alloc), image)?)?;
+    refusal(alloc, letters, Vec::new(alloc), Vec::new(alloc), endos)
+}
+
+/// The lamplighter's generators, with one endomorphism.
+fn lamplighter(alloc: Global) -> Result<LPres, WordRefusal> {
+    let fixed = with(Vec::new(alloc), &[3, -2])?;
+    let squares = with(Vec::new(alloc), &[1, 1])?;
+    let iterated = with(squares, &[-1, -3, -1, 3, 1, -3, 1, 3])?;
+    let images = with(with(with(Vec::new(alloc), &[1])?, &[2])?, &[3, 2])?;
+    made(
+        alloc,
+        b"atu",
+        fixed,
+        iterated,
+        with_endo(Vec::new(alloc), images)?,
     )
 }
 
@@ -62,14 +106,13 @@ fn are_equal(left: &[Word], right: &[Word]) -> bool {
 }
 
 #[test]
-fn images_along_endomorphisms(rt: HostRuntime) -> Result<(), WordRefusal> {
+fn a_word_along_one_endomorphism(rt: HostRuntime) -> Result<(), WordRefusal> {
     let alloc = rt.alloc();
     let pres = lamplighter(alloc)?;
     let w = Word::of(alloc, &[3])?;
     if pres.names().len() < 3 || pres.endos().is_empty() {
         return Err(WordRefusal::NoMemory);
     }
-    assert_eq!(rt; along(alloc, &pres, &[], &w)?.letters(), [3].as_slice());
     assert_eq!(rt; along(alloc, &pres, &[1], &w)?.letters(), [3, 2].as_slice());
     assert_eq!(rt;
         along(alloc, &pres, &[1, 1], &w)?.letters(),
@@ -79,41 +122,16 @@ fn images_along_endomorphisms(rt: HostRuntime) -> Result<(), WordRefusal> {
 }
 
 #[test]
-fn the_endomorphism_that_stands_last_is_applied_first(rt: HostRuntime) -> Result<(), WordRefusal> {
+fn the_shortest_suffix_that_is_too_long(rt: HostRuntime) -> Result<(), WordRefusal> {
     let alloc = rt.alloc();
-    let swap = vec![in alloc; Word::of(alloc, &[2])?, Word::of(alloc, &[1])?]?;
-    let square = vec![in alloc; Word::of(alloc, &[1, 1])?, Word::of(alloc, &[2])?]?;
-    let endos = vec![in alloc; swap, square]?;
-    let names = names_of(alloc, b"ab")?;
-    let made = LPres::of(alloc, names, Vec::new(alloc), Vec::new(alloc), endos);
-    let pres = made.map_err(|_| WordRefusal::NoMemory)?;
-    let w = Word::of(alloc, &[1])?;
-    if pres.names().len() < 2 || pres.endos().len() < 2 {
-        return Err(WordRefusal::NoMemory);
-    }
-    assert_eq!(rt;
-        along(alloc, &pres, &[1, 2], &w)?.letters(),
-        [2, 2].as_slice()
-    );
-    assert_eq!(rt; along(alloc, &pres, &[2, 1], &w)?.letters(), [2].as_slice());
-    Ok(())
-}
-
-#[test]
-fn the_first_length_above_the_limit(rt: HostRuntime) -> Result<(), WordRefusal> {
-    let alloc = rt.alloc();
-    let double = vec![in alloc; Word::of(alloc, &[1, 1])?]?;
-    let endos = vec![in alloc; double]?;
-    let names = names_of(alloc, b"a")?;
-    let made = LPres::of(alloc, names, Vec::new(alloc), Vec::new(alloc), endos);
-    let pres = made.map_err(|_| WordRefusal::NoMemory)?;
+    let endos = with_endo(Vec::new(alloc), with(Vec::new(alloc), &[1, 1])?)?;
+    let pres = made(alloc, b"a", Vec::new(alloc), Vec::new(alloc), endos)?;
     let w = Word::of(alloc, &[1, 1, 1])?;
-    if pres.names().len() < 1 || pres.endos().is_empty() {
+    if pres.names().is_empty() || pres.endos().is_empty() {
         return Err(WordRefusal::NoMemory);
     }
-    let numbers = [1; 20];
     assert_eq!(rt;
-        along(alloc, &pres, &numbers, &w).err(),
+        along(alloc, &pres, &[1; 20], &w).err(),
         Some(WordRefusal::TooLong(98_304))
     );
     Ok(())
@@ -128,8 +146,8 @@ fn equal_presentations(rt: HostRuntime) -> Result<(), WordRefusal> {
     assert!(rt; are_equal(copy.fixed(), pres.fixed()));
     assert!(rt; are_equal(copy.iterated(), pres.iterated()));
     assert_eq!(rt; copy.endos().len(), 1);
-    for (left, right) in copy.endos().iter().zip(pres.endos()) {
-        assert!(rt; are_equal(left, right));
+    for images in copy.endos() {
+        assert!(rt; pres.endos().iter().all(|others| are_equal(images, others)));
     }
     Ok(())
 }
@@ -137,14 +155,17 @@ fn equal_presentations(rt: HostRuntime) -> Result<(), WordRefusal> {
 #[test]
 fn names_that_are_no_generators(rt: HostRuntime) -> Result<(), WordRefusal> {
     let alloc = rt.alloc();
-    let most = b"abcdefghijklmnopqrstuvwxyzABCDEF";
-    let more = b"abcdefghijklmnopqrstuvwxyzABCDEFG";
     let broken = Some(PartsRefusal::Broken);
-    assert_eq!(rt; names_refusal(alloc, b"a")?, None);
-    assert_eq!(rt; names_refusal(alloc, b"aba")?, broken);
     assert_eq!(rt; names_refusal(alloc, b"")?, broken);
-    assert_eq!(rt; names_refusal(alloc, most)?, None);
-    assert_eq!(rt; names_refusal(alloc, more)?, broken);
+    assert_eq!(rt; names_refusal(alloc, b"aba")?, broken);
+    assert_eq!(rt;
+        names_refusal(alloc, b"abcdefghijklmnopqrstuvwxyzABCDEF")?,
+        None
+    );
+    assert_eq!(rt;
+        names_refusal(alloc, b"abcdefghijklmnopqrstuvwxyzABCDEFG")?,
+        broken
+    );
     Ok(())
 }
 
@@ -152,28 +173,14 @@ fn names_that_are_no_generators(rt: HostRuntime) -> Result<(), WordRefusal> {
 fn words_that_are_not_over_the_generators(rt: HostRuntime) -> Result<(), WordRefusal> {
     let alloc = rt.alloc();
     let broken = Some(PartsRefusal::Broken);
-    let fixed = vec![in alloc; Word::of(alloc, &[1, 2])?]?;
+    let fixed = with(Vec::new(alloc), &[1, -2])?;
     assert_eq!(rt;
-        refusal_of(alloc, b"a", fixed, Vec::new(alloc), Vec::new(alloc))?,
+        refusal(alloc, b"a", fixed, Vec::new(alloc), Vec::new(alloc))?,
         broken
     );
-    let iterated = vec![in alloc; Word::of(alloc, &[1, -2])?]?;
-    assert_eq!(rt;
-        refusal_of(alloc, b"a", Vec::new(alloc), iterated, Vec::new(alloc))?,
-        broken
-    );
-    let images = vec![in alloc; Word::of(alloc, &[2])?]?;
-    let endos = vec![in alloc; images]?;
-    assert_eq!(rt;
-        refusal_of(alloc, b"a", Vec::new(alloc), Vec::new(alloc), endos)?,
-        broken
-    );
-    let images = vec![in alloc; Word::of(alloc, &[2])?]?;
-    let endos = vec![in alloc; images]?;
-    assert_eq!(rt;
-        refusal_of(alloc, b"ab", Vec::new(alloc), Vec::new(alloc), endos)?,
-        broken
-    );
+    assert_eq!(rt; image_refusal(alloc, b"a", &[1])?, None);
+    assert_eq!(rt; image_refusal(alloc, b"a", &[2])?, broken);
+    assert_eq!(rt; image_refusal(alloc, b"ab", &[1])?, broken);
     Ok(())
 }
 
@@ -182,10 +189,10 @@ fn more_relators_than_a_presentation_has(rt: HostRuntime) -> Result<(), WordRefu
     let alloc = rt.alloc();
     let mut fixed = Vec::new(alloc);
     for _ in 0..4_097 {
-        fixed.push(Word::of(alloc, &[1])?)?;
+        fixed = with(fixed, &[1])?;
     }
     assert_eq!(rt;
-        refusal_of(alloc, b"a", fixed, Vec::new(alloc), Vec::new(alloc))?,
+        refusal(alloc, b"a", fixed, Vec::new(alloc), Vec::new(alloc))?,
         Some(PartsRefusal::Broken)
     );
     Ok(())

@@ -56,3 +56,8 @@ pub mod MeaningLetters
 pub mod AddedLetters
 pub mod ItemMakes
 pub mod Adding
+pub mod KeptWords
+pub mod Suffixes
+pub mod EndoPlaces
+pub mod OneNameMore
+pub mod PartLimits

@@ -1,7 +1,7 @@
 //! L-presentations as values.
 
-ghost use Rattle.std.specs.Prelude.{◌≡◌, ◌≤◌, length, map, MatchResult};
-ghost use Rattle.pq_base.specs.LPresentation.{LPresentation, IsLPresentation};
+ghost use Rattle.std.specs.Prelude.{◌≡◌, ◌≤◌, [], ◌∷◌, length, map, MatchResult};
+ghost use Rattle.pq_base.specs.LPresentation.{LPresentation, IsLPresentation, AreEndoNumbers, AreWords, endo_at};
 ghost use Rattle.lpres_reader.specs.declared.fault.Kind.TheVariants.{NotAllImages as MissesImages};
 ghost use Rattle.lpres_reader.specs.declared.fault.Stop.TheVariants.{NoMemory as WantOfMemory};
 ghost use Rattle.lpres_reader.specs.Adds.{Adds, AddsNothing, AddsSoundly};
@@ -187,6 +187,16 @@ impl LPres {
         ensures limit { result ≤ 4194304 }
     {
         letters_in(&self.fixed) + letters_in(&self.iterated) + endo_letters(&self.endos)
+    }
+
+    /// The images of the generators under the endomorphism with this number, counted from 1.
+    pub(crate) fn endo(&self, number: u8) -> &[Word]
+        requires { AreEndoNumbers (length self.now.endos) (number ∷ []) }
+        ensures images { result.now ≡ endo_at self.now.endos number }
+        ensures words { AreWords (length self.now.names) result.now }
+        ensures count { length result.now ≡ length self.now.names }
+    {
+        self.endos[usize::from(number) - 1].as_slice()
     }
 }
 

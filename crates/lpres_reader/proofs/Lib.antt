@@ -51,3 +51,4 @@ pub mod KnownRuns
 pub mod ItemReads
 pub mod EndoLetters
 pub mod ImageArrows
+pub mod CanonicalVectors

@@ -52,3 +52,6 @@ pub mod ItemReads
 pub mod EndoLetters
 pub mod ImageArrows
 pub mod CanonicalVectors
+pub mod RunLaws
+pub mod ArrowTexts
+pub mod WrittenLines

@@ -1,7 +1,8 @@
 -- The canonical text of a presentation: one line for its generators, one for each relator, and one for each endomorphism.
 use Rattle.std.specs.Prelude.{ℕ, zero, suc, ℤ, pos, negsuc, unsigned_abs, ◌==◌, if◌then◌else◌, List, [], ◌∷◌, ◌++◌, get_or, map, codes, decimal}
 use Rattle.pq_base.specs.LPresentation.{LPresentation}
-use Rattle.lpres_reader.specs.Runs.{Run, runs_of}
+use Rattle.lpres_reader.specs.declared.canonical.Run.{Run}
+use Rattle.lpres_reader.specs.Runs.{runs_of}
 
 -- the texts, each behind the same bytes
 abbrev pub preceded : List ℕ → List (List ℕ) → List ℕ

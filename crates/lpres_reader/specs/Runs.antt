@@ -1,12 +1,9 @@
 -- The maximal runs of equal letters of a word.
 use Rattle.std.specs.Prelude.{ℕ, suc, ℤ, Bool, true, false, List, [], ◌∷◌}
 use Rattle.std.specs.Ordering.{int_eq}
+use Rattle.lpres_reader.specs.declared.canonical.Run.{Run}
 
 -- a letter, and how often it comes
-pub record Run : Type 0 where
-  pub letter : ℤ
-  pub size : ℕ
-
 abbrev pub run : ℤ → ℕ → Run
 run k n = record { letter = k; size = n }
 

@@ -2,6 +2,7 @@
 //! means a presentation; any other text is refused by its first fault.
 #![tactic(auto)]
 
+mod canonical;
 mod depth;
 mod exponent;
 mod fault;
@@ -20,6 +21,7 @@ mod syntax;
 mod token;
 mod value;
 
+pub use canonical::write;
 pub use fault::{Kind, TextFault, Which};
 pub use presentation::LPres;
 pub use reading::read;

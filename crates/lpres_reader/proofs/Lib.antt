@@ -55,3 +55,10 @@ pub mod CanonicalVectors
 pub mod RunLaws
 pub mod ArrowTexts
 pub mod WrittenLines
+pub mod RunWords
+pub mod DecimalNumbers
+pub mod CanonicalTokens
+pub mod CanonicalWords
+pub mod LineBytes
+pub mod CanonicalItems
+pub mod CanonicalLines

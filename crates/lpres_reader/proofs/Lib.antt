@@ -62,3 +62,5 @@ pub mod CanonicalWords
 pub mod LineBytes
 pub mod CanonicalItems
 pub mod CanonicalLines
+pub mod CanonicalReads
+pub mod CanonicalLengths

@@ -1,13 +1,15 @@
 //! Writing a presentation: its canonical text.
 
-ghost use Rattle.std.specs.Prelude.{◌≡◌, ◌++◌, [], ◌∷◌, suc, OnOk, IfOk, codes, decimal, map, unsigned_abs, ◌<◌, ◌≤◌, length, MatchOption, IfSome};
+ghost use Rattle.std.specs.Prelude.{◌≡◌, ◌++◌, ◌-◌, ◌^◌, ◌<◌, ◌≤◌, [], ◌∷◌, OnOk, IfOk, IfSome, MatchOption, codes, decimal, length, map};
 ghost use Rattle.std.specs.List.{prefix_len};
 ghost use Rattle.std.specs.Ordering.{int_eq};
 ghost use Rattle.lpres_reader.specs.Runs.{runs_of};
+ghost use Rattle.lpres_reader.specs.Reads.{Reads};
 ghost use Rattle.lpres_reader.specs.CanonicalText.{preceded, separated, name_text, exponent_text, run_text, word_text, generators_line, relator_lines, arrow_text, arrow_texts, endo_line, endo_lines, text_of_lines, canonical_text};
 
 use crate::presentation::LPres;
 use free_words::Word;
+use indexmap::IndexSet;
 use pq_base::{Name, NoMemory};
 use std::alloc::Global;
 
@@ -18,13 +20,16 @@ pub(crate) struct Run {
     size: usize,
 }
 
-/// The canonical text of a presentation: every byte of it is determined by the presentation.
+/// The canonical text of a presentation: every byte of it is determined by the presentation. It reads as the
+/// presentation again.
 pub fn write(alloc: Global, pres: &LPres) -> Result<Vec<u8>, NoMemory>
     ensures text { IfOk result (λ text. text.items ≡ canonical_text pres.now) }
+    ensures reads { IfOk result (λ text. Reads text.items pres.now) }
+    ensures short { IfOk result (λ text. length text.items < 2 ^ 32 - 1) }
 {
     let mut out = Vec::new(alloc);
+    push_generators(&mut out, pres.name_set())?;
     let names = pres.names();
-    push_generators(&mut out, names)?;
     push_relators(&mut out, b"fixed ", names, pres.fixed())?;
     push_relators(&mut out, b"iterated ", names, pres.iterated())?;
     push_endos(&mut out, names, pres.endos())?;
@@ -32,11 +37,11 @@ pub fn write(alloc: Global, pres: &LPres) -> Result<Vec<u8>, NoMemory>
 }
 
 /// The line of the generators.
-fn push_generators(out: &mut Vec<u8>, names: &[Name]) -> Result<(), NoMemory>
-    ensures { OnOk result (out.new.items ≡ out.old.items ++ (generators_line names.now ++ 10 ∷ [])) }
+fn push_generators(out: &mut Vec<u8>, names: &IndexSet<Name>) -> Result<(), NoMemory>
+    ensures { OnOk result (out.new.items ≡ out.old.items ++ (generators_line names.now.keys ++ 10 ∷ [])) }
 {
     out.extend_from_slice(b"generators")?;
-    for name in names {
+    for name in names.as_slice() {
         out.push(b' ')?;
         out.extend_from_slice(name.bytes())?;
     }

@@ -61,3 +61,16 @@ pub mod Suffixes
 pub mod EndoPlaces
 pub mod OneNameMore
 pub mod PartLimits
+pub mod CanonicalVectors
+pub mod RunLaws
+pub mod ArrowTexts
+pub mod WrittenLines
+pub mod RunWords
+pub mod DecimalNumbers
+pub mod CanonicalTokens
+pub mod CanonicalWords
+pub mod LineBytes
+pub mod CanonicalItems
+pub mod CanonicalLines
+pub mod CanonicalReads
+pub mod CanonicalLengths

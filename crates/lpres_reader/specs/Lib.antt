@@ -28,3 +28,5 @@ pub mod Passed
 pub mod Adds
 pub mod Parts
 pub mod Along
+pub mod Runs
+pub mod CanonicalText

@@ -1,6 +1,7 @@
 -- What is proved of the grammar alone.
-use Rattle.std.specs.Prelude.{◌≡◌, ℕ, ℤ, List, ◌⊎◌, ◌↔◌, Ok, Err}
-use Rattle.pq_base.specs.LPresentation.{LPresentation, AreDistinct}
+use Rattle.std.specs.Prelude.{◌≡◌, ◌<◌, ◌-◌, ◌^◌, ℕ, ℤ, List, length, All, ◌⊎◌, ◌↔◌, Ok, Err}
+use Rattle.pq_base.specs.Name.{IsName}
+use Rattle.pq_base.specs.LPresentation.{LPresentation, IsLPresentation, AreDistinct}
 use Rattle.lpres_reader.specs.Tokens.{Token, ReadsTokens}
 use Rattle.lpres_reader.specs.Words.{ReadsWord}
 use Rattle.lpres_reader.specs.Items.{Item, ReadsItem}
@@ -10,6 +11,7 @@ use Rattle.lpres_reader.specs.Trees.{WordTree, word_tokens, word_meaning, ItemTr
 use Rattle.lpres_reader.specs.Trials.{AreKept, word_trials, item_trials, added}
 use Rattle.lpres_reader.specs.Faults.{Kind, FirstFault}
 use Rattle.lpres_reader.specs.Verdicts.{text_verdict}
+use Rattle.lpres_reader.specs.CanonicalText.{canonical_text}
 
 -- a line is at most one list of tokens, and that is at most one tree
 pub record IsOneTree (line : List ℕ) : Type 0 where
@@ -60,3 +62,11 @@ pub record IsJudged (text : List ℕ) : Type 0 where
 
 abbrev pub VerdictsAreRight : Type 0
 VerdictsAreRight = (text : List ℕ) → IsJudged text
+
+-- the canonical text of a presentation reads as the presentation
+abbrev pub CanonicalTextsReadBack : Type 0
+CanonicalTextsReadBack = (L : LPresentation) → All IsName L.names → IsLPresentation L → IsWithinLimits L → Reads (canonical_text L) L
+
+-- and the reader may be called on it
+abbrev pub CanonicalTextsAreShort : Type 0
+CanonicalTextsAreShort = (L : LPresentation) → All IsName L.names → IsLPresentation L → IsWithinLimits L → length (canonical_text L) < 2 ^ 32 - 1

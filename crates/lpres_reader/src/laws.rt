@@ -1,6 +1,6 @@
 //! Laws of the grammar: each function does nothing, and its clause is a theorem.
 
-ghost use Rattle.lpres_reader.specs.ReaderLaws.{EachLineIsOneTree, EachTextReadsOrFails, LinesReadAsTheirTrees, VerdictsAreRight, WordsReadAsTheirTrees};
+ghost use Rattle.lpres_reader.specs.ReaderLaws.{CanonicalTextsAreShort, CanonicalTextsReadBack, EachLineIsOneTree, EachTextReadsOrFails, LinesReadAsTheirTrees, VerdictsAreRight, WordsReadAsTheirTrees};
 
 /// A line is at most one list of tokens, and these are at most one syntax tree.
 pub fn each_line_is_one_tree()
@@ -28,4 +28,16 @@ pub fn each_text_reads_or_fails()
 /// The verdict on a text, which is computed, is the presentation that the text reads as, or its first fault.
 pub fn verdicts_are_right()
     ensures { VerdictsAreRight }
+{}
+
+/// The canonical text of a presentation within the limits reads as that presentation.
+#[tactic(auto, using(crate::proofs::CanonicalReads::canonical_texts_read_back))]
+pub fn canonical_texts_read_back()
+    ensures { CanonicalTextsReadBack }
+{}
+
+/// The canonical text of a presentation within the limits is short enough to be read.
+#[tactic(auto, using(crate::proofs::CanonicalLengths::canonical_texts_are_short))]
+pub fn canonical_texts_are_short()
+    ensures { CanonicalTextsAreShort }
 {}

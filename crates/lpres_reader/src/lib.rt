@@ -2,6 +2,7 @@
 //! means a presentation; any other text is refused by its first fault.
 #![tactic(auto)]
 
+mod canonical;
 mod copies;
 mod depth;
 mod exponent;
@@ -27,6 +28,7 @@ mod token;
 mod value;
 mod word_along;
 
+pub use canonical::write;
 pub use fault::{Kind, TextFault, Which};
 pub use parts::PartsRefusal;
 pub use presentation::LPres;

@@ -1,12 +1,11 @@
 //! The top of the engine: the words of a command, and the call that reads a presentation and writes its answer.
 #![tactic(auto)]
 
-mod class_one;
 mod command;
+mod form;
 mod input;
 mod number;
 mod refusal;
-mod relators;
 mod top;
 mod words;
 

@@ -100,10 +100,13 @@ fn sizes_of_exponents(rt: HostRuntime) -> Result<(), Fail> {
 
 #[test]
 fn letters_of_a_word(rt: HostRuntime) -> Result<(), Fail> {
-    let product = repeated(rt.alloc(), "generators x\nfixed x", "*x", 65_535, "\n")?;
-    ends_so(rt.alloc(), "quotient 3 1", &product, Status::Done, NONE_LEFT)?;
-    let longer = repeated(rt.alloc(), "generators x\nfixed x", "*x", 65_536, "\n")?;
-    is_bad(rt.alloc(), &longer, "refused: line 2: limit letters 65537\n")?;
+    let start = "generators x\nfixed x^64";
+    let most = repeated(rt.alloc(), start, "*x^64", 1023, "\n")?;
+    ends_so(rt.alloc(), "quotient 3 1", &most, Status::Done, NONE_LEFT)?;
+    let one_more = repeated(rt.alloc(), start, "*x^64", 1023, "*x\n")?;
+    is_bad(rt.alloc(), &one_more, "refused: line 2: limit letters 65537\n")?;
+    let two_more = repeated(rt.alloc(), start, "*x^64", 1023, "*x^2\n")?;
+    is_bad(rt.alloc(), &two_more, "refused: line 2: limit letters 65538\n")?;
     for (text, line) in [
         (
             b"generators x\nfixed x^65536*x\n".as_slice(),

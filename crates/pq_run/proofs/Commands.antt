@@ -1,13 +1,17 @@
 -- One list of words spells at most one command, so what kind of command words ask for is one thing.
-use Rattle.std.proofs.Common.{◌≡◌, ◌<◌, ◌≤◌, ◌^◌, ℕ, List, [], get_or, length, ◌+◌, ◌*◌, refl, sym, ap, ◌∙◌, subst, decimal, arith}
+use Rattle.std.proofs.Common.{◌≡◌, ◌<◌, ◌≤◌, ◌^◌, ℕ, List, [], get_or, length, ◌+◌, ◌*◌, ◌⊎◌, inl, inr, refl, sym, ap, ◌∙◌, subst, decimal, arith}
+use native.Mathlib.Nat.{eq-or-lt_of_le}
 use Rattle.std.proofs.lemmas.Fmt.{decimal_injective}
 use Rattle.pq_base.specs.declared.prime.Prime.{Prime}
 use Rattle.pq_base.specs.declared.prime.Prime.TheVariants.{P2, P3, P5, P7}
 use Rattle.pq_base.specs.Prime.{prime_value}
 use Rattle.pq_run.specs.declared.command.Command.{Command}
 use Rattle.pq_run.specs.declared.command.Command.TheVariants.{Quotient, Json, Certify, Check, Sample}
-use Rattle.pq_run.specs.Command.{command_words, CommandWords, IsInRange}
-use Rattle.pq_run.specs.Refusals.{Ask, IsUnbuilt, IsHigher, IsFirstClass, AskUnbuiltCommand, AskHigherClass, AskFirstClass}
+use Rattle.pq_run.specs.declared.form.Form.{Form}
+use Rattle.pq_run.specs.declared.form.Form.TheVariants as form
+use Rattle.pq_run.specs.Forms.{first_class_command}
+use Rattle.pq_run.specs.Command.{command_words, CommandWords, IsClass, IsInRange}
+use Rattle.pq_run.specs.Causes.{Ask, IsUnbuilt, IsHigher, IsFirstClass, AskUnbuiltCommand, AskHigherClass, AskFirstClass}
 
 -- word number i, counted from 0
 abbrev word : ℕ → List (List ℕ) → List ℕ
@@ -86,21 +90,21 @@ one_command words c d x y = command_words-injective c d x.range y.range (sym x.s
 
 unbuilt-not_first : (c : Command) → IsUnbuilt c → IsFirstClass c → ⊥
 unbuilt-not_first (Quotient p c) u f = u
-unbuilt-not_first (Json p c) u f = f
+unbuilt-not_first (Json p c) u f = u
 unbuilt-not_first (Certify p c) u f = f
 unbuilt-not_first Check u f = f
 unbuilt-not_first (Sample n) u f = f
 
 higher-not_first : (c : Command) → IsHigher c → IsFirstClass c → ⊥
 higher-not_first (Quotient p c) u f = omega arith
-higher-not_first (Json p c) u f = f
+higher-not_first (Json p c) u f = omega arith
 higher-not_first (Certify p c) u f = f
 higher-not_first Check u f = f
 higher-not_first (Sample n) u f = f
 
 unbuilt-not_higher : (c : Command) → IsUnbuilt c → IsHigher c → ⊥
 unbuilt-not_higher (Quotient p c) u h = u
-unbuilt-not_higher (Json p c) u h = h
+unbuilt-not_higher (Json p c) u h = u
 unbuilt-not_higher (Certify p c) u h = h
 unbuilt-not_higher Check u h = h
 unbuilt-not_higher (Sample n) u h = h
@@ -117,3 +121,24 @@ higher_class-not_first words a b = asked_twice IsHigher IsFirstClass words highe
 
 pub unbuilt_command-not_higher : (words : List (List ℕ)) → AskUnbuiltCommand words → AskHigherClass words → ⊥
 unbuilt_command-not_higher words a b = asked_twice IsUnbuilt IsHigher words unbuilt-not_higher a b
+
+-- a class other than 1 that can be asked for
+above_one : (c : ℕ) → IsClass c → (c ≡ 1 → ⊥) → 1 < c
+above_one c is other = elim (eq-or-lt_of_le is.0) [ inl e ↦ absurd (other (sym e)) | inr h ↦ h ]
+
+pub higher_class : (words : List (List ℕ)) (d : Command) (p : Prime) (c : ℕ) → CommandWords words d → (d ≡ Quotient p c) ⊎ (d ≡ Json p c) → (c ≡ 1 → ⊥)
+    → AskHigherClass words
+higher_class words d p c spelled (inl same) other =
+    let here = subst (CommandWords words) same spelled in
+    (Quotient p c, here, above_one c here.range other)
+higher_class words d p c spelled (inr same) other =
+    let here = subst (CommandWords words) same spelled in
+    (Json p c, here, above_one c here.range other)
+
+pub unbuilt_command : (words : List (List ℕ)) (d c : Command) → CommandWords words d → d ≡ c → IsUnbuilt c → AskUnbuiltCommand words
+unbuilt_command words d c spelled same unbuilt = (c, subst (CommandWords words) same spelled, unbuilt)
+
+-- the words of a command that asks for an answer of class 1
+pub ask_first_class : (words : List (List ℕ)) (form : Form) (p : Prime) → CommandWords words (first_class_command form p) → AskFirstClass words
+ask_first_class words form.Text p spelled = (Quotient p 1, spelled, refl)
+ask_first_class words form.Json p spelled = (Json p 1, spelled, refl)

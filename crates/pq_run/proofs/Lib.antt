@@ -1,6 +1,6 @@
 pub mod Numbers
-pub mod ClassOneLines
-pub mod Flags
 pub mod Commands
-pub mod EndsLaws
-pub mod ClassOneOf
+pub mod WordsEnds
+pub mod FirstClassEnds
+pub mod RefusalEnds
+pub mod InputCauses

@@ -1,15 +1,11 @@
 -- How a command ends: with its output, with a first part of it because the sink failed, or refused.
-use Rattle.std.specs.Prelude.{◌≡◌, ◌⊎◌, ◌≤◌, ℕ, List, Option, IfSome, length}
+use Rattle.std.specs.Prelude.{◌≡◌, ◌⊎◌, ℕ, List, Option, IfSome}
 use Rattle.pq_base.specs.declared.status.Status.{Status}
 use Rattle.pq_base.specs.declared.status.Status.TheVariants.{Done, WriteFault}
-use Rattle.lpres_reader.specs.Narrow.{IsNarrow}
 use Rattle.pq_io.specs.Faults.{Rose}
+use Rattle.pq_run.specs.Inputs.{IsBuiltInput}
 use Rattle.pq_run.specs.Output.{WritesOutput, WritesPart}
-use Rattle.pq_run.specs.Refusals.{AskFirstClass, Refuses, byte_limit}
-
--- an input that is built: a narrow text that isn't too long
-abbrev pub IsBuiltInput : List ℕ → Type 0
-IsBuiltInput bytes = (length bytes ≤ byte_limit) × IsNarrow bytes
+use Rattle.pq_run.specs.Causes.{AskFirstClass, Refuses}
 
 -- what a source and a sink tell before and after a command: bytes, and counts of faults
 pub record Streams : Type 0 where

@@ -1,7 +1,8 @@
 pub mod Number
 pub mod Command
-pub mod AnswerText
+pub mod Forms
+pub mod Inputs
 pub mod Output
-pub mod ClassOneText
 pub mod Refusals
+pub mod Causes
 pub mod Ends

@@ -5,24 +5,27 @@ use Rattle.pq_base.specs.Prime.{prime_value}
 use Rattle.pq_base.specs.LPresentation.{LPresentation}
 use Rattle.pq_base.specs.Answer.{Answer}
 use Rattle.pq_base.specs.Largest.{IsLargest}
+use Rattle.pq_base.specs.Canonical.{IsCanonical}
 use Rattle.lpres_reader.specs.Reads.{Reads}
+use Rattle.answer_text.specs.AnswerText.{answer_text}
+use Rattle.answer_text.specs.AnswerData.{answer_json}
 use Rattle.pq_io.specs.Writing.{Gains, GainsProperPrefix}
 use Rattle.pq_run.specs.declared.command.Command.{Command}
 use Rattle.pq_run.specs.declared.command.Command.TheVariants.{Quotient, Json, Certify, Check, Sample}
 use Rattle.pq_run.specs.Command.{CommandWords}
-use Rattle.pq_run.specs.AnswerText.{answer_text}
 
--- the bytes read as one presentation, and what is written is the text of one largest quotient of it
-pub record WritesAnswer (p c : ℕ) (bytes written : List ℕ) : Type 0 where
+-- the bytes read as one presentation, and what is written is one largest quotient of it, the canonical one, in this form
+pub record WritesAnswer (p c : ℕ) (form : Answer → List ℕ) (bytes written : List ℕ) : Type 0 where
   pub presentation : LPresentation
   pub reads : Reads bytes presentation
   pub answer : Answer
   pub largest : IsLargest presentation p c answer
-  pub text : written ≡ answer_text answer
+  pub canonical : IsCanonical answer
+  pub text : written ≡ form answer
 
 abbrev pub OutputOf : Command → List ℕ → List ℕ → Type 0
-OutputOf (Quotient p c) bytes written = WritesAnswer (prime_value p) c bytes written
-OutputOf (Json p c) bytes written = ⊥
+OutputOf (Quotient p c) bytes written = WritesAnswer (prime_value p) c answer_text bytes written
+OutputOf (Json p c) bytes written = WritesAnswer (prime_value p) c answer_json bytes written
 OutputOf (Certify p c) bytes written = ⊥
 OutputOf Check bytes written = ⊥
 OutputOf (Sample n) bytes written = ⊥

@@ -1,66 +1,47 @@
-// From the bytes of a source to the text of the answer of class 1.
-ghost use Rattle.std.specs.Prelude.{◌≡◌, ◌+◌, ◌<◌, ◌≤◌, ◌^◌, ℕ, [], IfOk, IfErr, IfSome, Some, drop, length};
+// From the bytes of a source to the bytes of the answer of class 1.
+ghost use Rattle.std.specs.Prelude.{◌≡◌, ◌+◌, ◌≤◌, ℕ, IfOk, IfErr, IfSome, Some, drop};
 ghost use Rattle.pq_base.specs.Prime.{prime_value};
-ghost use Rattle.pq_base.specs.Answer.{Answer};
-ghost use Rattle.pq_base.specs.Largest.{IsLargest};
-ghost use Rattle.lpres_reader.specs.Narrow.{IsNarrow, HasGeneratorRelators};
-ghost use Rattle.pq_run.specs.AnswerText.{answer_text};
+ghost use Rattle.pq_run.specs.Forms.{written_as};
+ghost use Rattle.pq_run.specs.Inputs.{IsShort, IsBuiltInput, HasNoEndos, byte_limit};
 ghost use Rattle.pq_run.specs.Output.{IsReadBy, WritesAnswer};
-ghost use Rattle.pq_run.specs.Refusals.{IsInputCause, IsTextCause, byte_limit};
+ghost use Rattle.pq_run.specs.Causes.{IsInputCause};
 
-use crate::class_one::class_one_text;
+use crate::form::{Form, write_answer};
 use crate::refusal::Refusal;
-use crate::relators::flags;
-use lpres_reader::{LPres, ReadRefusal, read};
+use class_one::answer_of_class_one;
+use lpres_reader::read;
+use pq_base::Prime;
 use pq_base::limits::PRESENTATION_BYTES;
-use pq_base::{NoMemory, Prime};
-use pq_io::{InputRefusal, Source, read_up_to};
+use pq_io::{Source, read_up_to};
 use std::alloc::Global;
 
-/// Reads a presentation to its end, and gives the text of its answer of class 1.
-pub fn class_one_of_source<S: Source>(
+/// Reads a presentation to its end, and gives the bytes of its answer of class 1.
+pub fn answer_of_source<S: Source>(
     alloc: Global,
     prime: Prime,
+    form: Form,
     source: &mut S,
 ) -> Result<Vec<u8>, Refusal>
-    ensures ok { IfOk result (λ text. IsReadBy (S.left source.old) (S.left source.new) (λ bytes. WritesAnswer (prime_value prime) 1 bytes text.items)) }
-    ensures narrow { IfOk result (λ text. IfSome (S.left source.old) (λ bytes. (length bytes ≤ byte_limit) × IsNarrow bytes)) }
-    ensures err { IfErr result (λ refusal. IsInputCause (S.left source.old) (S.faults source.old) (S.faults source.new) refusal) }
+    ensures ok { IfOk result (λ bytes. IsReadBy (S.left source.old) (S.left source.new) (λ text. IsBuiltInput text × WritesAnswer (prime_value prime) 1 (written_as form) text bytes.items)) }
+    ensures err { IfErr result (IsInputCause (S.left source.old) (S.faults source.old) (S.faults source.new)) }
     ensures count { S.faults source.old ≤ S.faults source.new }
-    ensures left { IfSome (S.left source.old) (λ bytes. (n : ℕ) × (n ≤ byte_limit + 1) × (S.left source.new ≡ Some (drop n bytes))) }
+    ensures left { IfSome (S.left source.old) (λ told. (n : ℕ) × (n ≤ byte_limit + 1) × (S.left source.new ≡ Some (drop n told))) }
 {
-    match read_up_to(alloc, source, PRESENTATION_BYTES) {
-        Ok(bytes) => class_one_of_text(alloc, prime, &bytes),
-        Err(InputRefusal::Failed) => Err(Refusal::ReadFault),
-        Err(InputRefusal::TooLong) => Err(Refusal::UnbuiltInput),
-        Err(InputRefusal::NoMemory) => Err(Refusal::NoMemory),
-    }
+    let text = read_up_to(alloc, source, PRESENTATION_BYTES)?;
+    answer_of_text(alloc, prime, form, &text)
 }
 
-/// The text of the answer of class 1 of a presentation.
-fn class_one_of_text(alloc: Global, prime: Prime, bytes: &[u8]) -> Result<Vec<u8>, Refusal>
-    requires { length bytes.now ≤ byte_limit }
-    ensures ok { IfOk result (λ text. WritesAnswer (prime_value prime) 1 bytes.now text.items) }
-    ensures narrow { IfOk result (λ text. IsNarrow bytes.now) }
-    ensures err { IfErr result (λ refusal. IsTextCause bytes.now refusal) }
+/// The bytes of the answer of class 1 of a presentation.
+fn answer_of_text(alloc: Global, prime: Prime, form: Form, text: &[u8]) -> Result<Vec<u8>, Refusal>
+    requires { IsShort text.now }
+    ensures built { IfOk result (λ bytes. HasNoEndos text.now) }
+    ensures ok { IfOk result (λ bytes. WritesAnswer (prime_value prime) 1 (written_as form) text.now bytes.items) }
+    ensures err { IfErr result (IsInputCause (Some text.now) 0 0) }
 {
-    let pres = match read(alloc, bytes) {
-        Ok(pres) => pres,
-        Err(ReadRefusal::NotBuilt) => return Err(Refusal::UnbuiltInput),
-        Err(ReadRefusal::NoMemory) => return Err(Refusal::NoMemory),
-    };
-    match class_one_of(alloc, prime, &pres) {
-        Ok(text) => Ok(text),
-        Err(NoMemory) => Err(Refusal::NoMemory),
+    let pres = read(alloc, text)?;
+    if !pres.endos().is_empty() {
+        return Err(Refusal::UnbuiltEndos);
     }
-}
-
-/// The text of the answer of class 1 of a presentation whose relators are generators.
-fn class_one_of(alloc: Global, prime: Prime, pres: &LPres) -> Result<Vec<u8>, NoMemory>
-    requires { HasGeneratorRelators pres.now }
-    ensures { IfOk result (λ text. (a : Answer) × IsLargest pres.now (prime_value prime) 1 a × (text.items ≡ answer_text a)) }
-{
-    let names = pres.names();
-    let killed = flags(alloc, names.len(), pres.fixed())?;
-    class_one_text(alloc, prime.value(), names, &killed)
+    let answer = answer_of_class_one(alloc, &pres, prime)?;
+    Ok(write_answer(alloc, form, &answer)?)
 }

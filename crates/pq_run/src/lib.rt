@@ -1,12 +1,13 @@
-//! The top of the engine: the words of a command, and the call that reads a presentation and writes its answer.
+//! The top of the engine: the words of a command, and the call that carries it out. `run` reads its input to the end and
+//! writes the bytes of one answer, the canonical largest quotient of the presentation that it read, and nothing else; or
+//! it writes the one line that says why the command is refused. Each status has its exact cause.
 #![tactic(auto)]
 
-mod class_one;
 mod command;
+mod form;
 mod input;
 mod number;
 mod refusal;
-mod relators;
 mod top;
 mod words;
 

@@ -1,16 +1,17 @@
 // The top call: from the words of a command and the bytes of a source to the bytes that a sink takes.
-ghost use Rattle.std.specs.Prelude.{◌≡◌, ◌+◌, ◌⊎◌, ◌↔◌, ◌≤◌, ℕ, IfSome, IsNone, Some, drop, length};
-ghost use Rattle.pq_base.specs.Prime.{prime_value};
+ghost use Rattle.std.specs.Prelude.{◌≡◌, ◌+◌, ◌⊎◌, ◌↔◌, ◌≤◌, ℕ, List, IfSome, IsNone, Some, drop};
 ghost use Rattle.pq_io.specs.Faults.{Rose};
 ghost use Rattle.pq_io.specs.Writing.{Gains, GainsProperPrefix};
-ghost use Rattle.lpres_reader.specs.Narrow.{IsNarrow};
 ghost use Rattle.pq_run.specs.Command.{AreCommandWords, CommandWords};
-ghost use Rattle.pq_run.specs.Ends.{Ends, Streams};
+ghost use Rattle.pq_run.specs.Forms.{first_class_command};
+ghost use Rattle.pq_run.specs.Inputs.{IsTooLong, IsShort, IsReadable, HasEndos, IsBuiltInput, byte_limit};
 ghost use Rattle.pq_run.specs.Output.{WritesOutput, WritesPart};
-ghost use Rattle.pq_run.specs.Refusals.{AskUnbuiltCommand, AskHigherClass, AskFirstClass, IsUnbuiltInput, Refuses, byte_limit};
+ghost use Rattle.pq_run.specs.Causes.{AskUnbuiltCommand, AskHigherClass, AskFirstClass, Refuses};
+ghost use Rattle.pq_run.specs.Ends.{Ends, Streams};
 
 use crate::command::{Command, parse_words};
-use crate::input::class_one_of_source;
+use crate::form::Form;
+use crate::input::answer_of_source;
 use crate::refusal::{Refusal, refuse};
 use crate::words::Words;
 use pq_base::{Prime, Status};
@@ -19,7 +20,7 @@ use std::alloc::Global;
 
 /// Carries out the command that the words spell: reads a presentation from the source to its end and writes the
 /// result, or a line that says why the command is refused. The line is written as far as the sink takes it.
-/// Built so far: `quotient P 1` for presentations whose relators are generators.
+/// Built so far: `quotient P 1` and `quotient P 1 json`, for presentations without endomorphisms.
 pub fn run<S: Source, K: Sink>(alloc: Global, words: &Words, source: &mut S, sink: &mut K) -> Status
     // The input was read to its end, and its output was written, and nothing else.
     ensures done { result ≡ Status.Done → WritesOutput words.now (S.left source.old) (S.left source.new) (K.taken sink.old) (K.taken sink.new) }
@@ -38,12 +39,16 @@ pub fn run<S: Source, K: Sink>(alloc: Global, words: &Words, source: &mut S, sin
     ensures class { AskHigherClass words.now → result ≡ Status.NotBuilt }
     ensures untouched { ¬ AskFirstClass words.now → (S.left source.new ≡ S.left source.old) × (S.faults source.new ≡ S.faults source.old) }
 
-    // An input that isn't built is refused, unless a read fails or memory is wanting before.
-    ensures input { IfSome (S.left source.old) (λ bytes. AskFirstClass words.now → IsUnbuiltInput bytes
+    // What the input decides comes, unless a read fails or memory is wanting before.
+    ensures too_long { IfSome (S.left source.old) (λ bytes. AskFirstClass words.now → IsTooLong bytes
+        → (result ≡ Status.InputTooLong) ⊎ ((result ≡ Status.ReadFault) ⊎ (result ≡ Status.NoMemory))) }
+    ensures bad_text { IfSome (S.left source.old) (λ bytes. AskFirstClass words.now → IsShort bytes → ¬ IsReadable bytes
+        → (result ≡ Status.BadText) ⊎ ((result ≡ Status.ReadFault) ⊎ (result ≡ Status.NoMemory))) }
+    ensures endos { IfSome (S.left source.old) (λ bytes. AskFirstClass words.now → IsShort bytes → HasEndos bytes
         → (result ≡ Status.NotBuilt) ⊎ ((result ≡ Status.ReadFault) ⊎ (result ≡ Status.NoMemory))) }
 
     // Where nothing fails and the input is built, the command is done, unless memory is wanting.
-    ensures complete { IfSome (S.left source.old) (λ bytes. AskFirstClass words.now → length bytes ≤ byte_limit → IsNarrow bytes
+    ensures complete { IfSome (S.left source.old) (λ bytes. AskFirstClass words.now → IsBuiltInput bytes
         → ¬ Rose (S.faults source.old) (S.faults source.new) → ¬ Rose (K.faults sink.old) (K.faults sink.new)
         → (result ≡ Status.Done) ⊎ (result ≡ Status.NoMemory)) }
 
@@ -69,30 +74,35 @@ fn carry_out<S: Source, K: Sink>(
     ensures silent { IsNone (K.taken sink.old) → IsNone (K.taken sink.new) }
 {
     match parse_words(words) {
-        None => refuse(sink, Refusal::Words),
-        Some(Command::Quotient(prime, 1)) => quotient(alloc, words, prime, source, sink),
-        Some(Command::Quotient(..)) => refuse(sink, Refusal::UnbuiltClass),
-        Some(_) => refuse(sink, Refusal::UnbuiltCommand),
+        None => refuse(alloc, sink, Refusal::Words),
+        Some(Command::Quotient(prime, 1)) => quotient(alloc, prime, Form::Text, source, sink),
+        Some(Command::Json(prime, 1)) => quotient(alloc, prime, Form::Json, source, sink),
+        Some(Command::Quotient(..)) => refuse(alloc, sink, Refusal::UnbuiltClass),
+        Some(Command::Json(..)) => refuse(alloc, sink, Refusal::UnbuiltClass),
+        Some(Command::Certify(..)) => refuse(alloc, sink, Refusal::UnbuiltCommand),
+        Some(Command::Check) => refuse(alloc, sink, Refusal::UnbuiltCommand),
+        Some(Command::Sample(_)) => refuse(alloc, sink, Refusal::UnbuiltCommand),
     }
 }
 
+/// Reads a presentation and writes its answer of class 1.
 fn quotient<S: Source, K: Sink>(
     alloc: Global,
-    words: &Words,
     prime: Prime,
+    form: Form,
     source: &mut S,
     sink: &mut K,
 ) -> Status
-    requires { CommandWords words.now (Command.Quotient prime 1) }
-    ensures ends { Ends words.now (record { left = S.left source.old; rest = S.left source.new; read_before = S.faults source.old; read_after = S.faults source.new; taken = K.taken sink.old; then = K.taken sink.new; write_before = K.faults sink.old; write_after = K.faults sink.new }) result }
+    ensures ends { (words : List (List ℕ)) → CommandWords words (first_class_command form prime)
+        → Ends words (record { left = S.left source.old; rest = S.left source.new; read_before = S.faults source.old; read_after = S.faults source.new; taken = K.taken sink.old; then = K.taken sink.new; write_before = K.faults sink.old; write_after = K.faults sink.new }) result }
     ensures read_count { S.faults source.old ≤ S.faults source.new }
     ensures write_count { K.faults sink.old ≤ K.faults sink.new }
     ensures left { IfSome (S.left source.old) (λ bytes. (n : ℕ) × (n ≤ byte_limit + 1) × (S.left source.new ≡ Some (drop n bytes))) }
     ensures silent { IsNone (K.taken sink.old) → IsNone (K.taken sink.new) }
 {
-    match class_one_of_source(alloc, prime, source) {
-        Ok(text) => finish(sink, &text),
-        Err(refusal) => refuse(sink, refusal),
+    match answer_of_source(alloc, prime, form, source) {
+        Ok(bytes) => finish(sink, &bytes),
+        Err(refusal) => refuse(alloc, sink, refusal),
     }
 }
 

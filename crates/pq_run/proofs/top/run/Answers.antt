@@ -1,4 +1,6 @@
-use Rattle.pq_run.proofs.EndsLaws.{bad_words-ends, command-ends, class-ends, complete-ends}
+-- Each clause follows from how the command ends.
+use Rattle.pq_run.proofs.WordsEnds.{bad_words-ends, command-ends, class-ends}
+use Rattle.pq_run.proofs.FirstClassEnds.{too_long-ends, bad_text-ends, endos-ends, complete-ends}
 use Rattle.pq_run.proofs.top.run.Goals as goal
 
 pub returns-clause-bad_words : goal.returns-clause-bad_words
@@ -9,6 +11,15 @@ returns-clause-command g c = command-ends _ _ _ c.carry_out.ensures.ends
 
 pub returns-clause-class : goal.returns-clause-class
 returns-clause-class g c = class-ends _ _ _ c.carry_out.ensures.ends
+
+pub returns-clause-too_long : goal.returns-clause-too_long
+returns-clause-too_long g c = too_long-ends _ _ _ _ _ _ _ _ _ _ c.carry_out.ensures.ends
+
+pub returns-clause-bad_text : goal.returns-clause-bad_text
+returns-clause-bad_text g c = bad_text-ends _ _ _ _ _ _ _ _ _ _ c.carry_out.ensures.ends
+
+pub returns-clause-endos : goal.returns-clause-endos
+returns-clause-endos g c = endos-ends _ _ _ _ _ _ _ _ _ _ c.carry_out.ensures.ends
 
 pub returns-clause-complete : goal.returns-clause-complete
 returns-clause-complete g c = complete-ends _ _ _ _ _ _ _ _ _ _ c.carry_out.ensures.ends

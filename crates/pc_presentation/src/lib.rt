@@ -14,7 +14,9 @@ pub mod elem;
 pub mod laws;
 mod parts;
 pub mod pcp;
+mod pushing;
 pub mod relation;
+pub mod scratch;
 mod store;
 pub mod syllable;
 #[cfg(test)]
@@ -27,4 +29,5 @@ pub use definition::Definition;
 pub use elem::Elem;
 pub use pcp::Pcp;
 pub use relation::Relation;
+pub use scratch::Scratch;
 pub use syllable::Syllable;

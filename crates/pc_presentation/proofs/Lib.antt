@@ -53,3 +53,4 @@ pub mod ElementLaws
 pub mod ElementConditions
 pub mod PushesLeft
 pub mod Division
+pub mod TailedArithmetic

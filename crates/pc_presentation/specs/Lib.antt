@@ -13,3 +13,4 @@ pub mod NormalTable
 pub mod CollectionLaws
 pub mod Tailed
 pub mod Scratch
+pub mod ImageElements

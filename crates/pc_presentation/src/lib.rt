@@ -6,6 +6,7 @@
 #![tactic(auto)]
 
 pub mod answer;
+pub mod arithmetic;
 pub mod builder;
 pub mod collect;
 mod copies;
@@ -23,6 +24,7 @@ pub mod syllable;
 mod tests;
 
 pub use answer::Answer;
+pub use arithmetic::{commutator, evaluate, inverse, power, product, value};
 pub use builder::{PcpBuilder, PcpRefusal};
 pub use collect::Collect;
 pub use definition::Definition;

@@ -1,0 +1,49 @@
+-- The arithmetic of each collector at a presentation with tails.
+use Rattle.std.proofs.Common.{◌≡◌, ℕ, ◌<◌, ℤ, List, [], ◌++◌, length, map, ap, sym, ◌∙◌, subst, arith}
+use Rattle.std.proofs.lemmas.List.{length-map}
+use Rattle.pq_base.specs.SignedWord.{sub, HasLetters}
+use Rattle.pq_base.specs.Joined.{Joined}
+use Rattle.pq_base.proofs.JoinedLaws.{joined-trans, joined-from_equal}
+use Rattle.pc_presentation.specs.Pcp.{TailedPresentation, IsTailedPresentation}
+use Rattle.pc_presentation.specs.Rowed.{RowedPresentation, IsRowed, flat}
+use Rattle.pc_presentation.specs.Collection.{State, IsState, identity}
+use Rattle.pc_presentation.specs.Arithmetic.{IsMeaning, product_by, word_of, evaluate_from, HasArithmetic}
+use Rattle.pc_presentation.specs.Tailed.{Element, rowed_presentation}
+use Rattle.pc_presentation.specs.ImageElements.{states_of, AreImageElements}
+use Rattle.pc_presentation.proofs.PcpLaws.{offered-two}
+use Rattle.pc_presentation.proofs.RowLaws.{identity-state}
+use Rattle.pc_presentation.proofs.TailedLaws.{rowed_presentation-is}
+use Rattle.pc_presentation.proofs.CollectorArithmetic.{collectors_have_arithmetic, identity-word}
+
+module _ (T : TailedPresentation) (is : IsTailedPresentation T) where
+  pub big_prime : 1 < T.presentation.prime
+  big_prime = let two = offered-two T.presentation.prime is.prime in omega arith
+
+  module _ (push : State → ℕ → State) (reaches : IsRowed (rowed_presentation T) → 0 < T.presentation.prime → IsMeaning (rowed_presentation T) push) where
+    pub meaning_at : IsMeaning (rowed_presentation T) push
+    meaning_at = let big = big_prime in reaches (rowed_presentation-is T is) (omega arith)
+
+    pub arithmetic_at : HasArithmetic (rowed_presentation T) push
+    arithmetic_at = collectors_have_arithmetic (rowed_presentation T) (rowed_presentation-is T is) big_prime push meaning_at
+
+    pub product_at-joined : (u v e : State) → IsState (rowed_presentation T) T.presentation.rank u → IsState (rowed_presentation T) T.presentation.rank v
+        → e ≡ product_by (rowed_presentation T) push u v
+        → Joined (flat (rowed_presentation T)) (word_of (rowed_presentation T) e) (word_of (rowed_presentation T) u ++ word_of (rowed_presentation T) v)
+    product_at-joined u v e h i q =
+        joined-trans (joined-from_equal (flat (rowed_presentation T)) (ap (word_of (rowed_presentation T)) q)) (arithmetic_at.products u v h i)
+
+    pub identity_at-word : word_of (rowed_presentation T) (identity (rowed_presentation T) T.presentation.rank) ≡ []
+    identity_at-word = identity-word (rowed_presentation T) (rowed_presentation-is T is) big_prime push meaning_at
+
+    pub value_at-joined : (f g : List Element) (w : List ℤ) (e : State) → AreImageElements T push f g → HasLetters (length f) w
+        → e ≡ evaluate_from (rowed_presentation T) push (states_of f) (states_of g) (identity (rowed_presentation T) T.presentation.rank) w
+        → Joined (flat (rowed_presentation T)) (word_of (rowed_presentation T) e) (sub w (map (word_of (rowed_presentation T)) (states_of f)))
+    value_at-joined f g w e images letters q =
+        let big = big_prime in
+        let Y : RowedPresentation = rowed_presentation T in
+        let count : length f ≡ length (states_of f) = sym (length-map f (λ (x : Element). x.state)) in
+        joined-trans (joined-from_equal (flat Y) (ap (word_of (rowed_presentation T)) q))
+        (joined-trans
+        (arithmetic_at.values (states_of f) (states_of g) (identity Y T.presentation.rank) w images.states
+        (identity-state (rowed_presentation T) T.presentation.rank (omega arith)) (subst (λ (n : ℕ). HasLetters n w) count letters))
+        (joined-from_equal (flat Y) (ap (λ (v : List ℤ). v ++ sub w (map (word_of (rowed_presentation T)) (states_of f))) identity_at-word)))

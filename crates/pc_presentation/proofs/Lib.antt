@@ -54,3 +54,5 @@ pub mod ElementConditions
 pub mod PushesLeft
 pub mod Division
 pub mod TailedArithmetic
+pub mod ValueSteps
+pub mod RepeatedSquares

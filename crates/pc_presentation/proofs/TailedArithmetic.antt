@@ -1,5 +1,5 @@
 -- The arithmetic of each collector at a presentation with tails.
-use Rattle.std.proofs.Common.{◌≡◌, ℕ, ◌<◌, ℤ, List, [], ◌++◌, length, map, ap, sym, ◌∙◌, subst, arith}
+use Rattle.std.proofs.Common.{◌≡◌, ℕ, ◌<◌, ℤ, List, [], ◌++◌, length, map, replicate, ap, sym, ◌∙◌, subst, arith}
 use Rattle.std.proofs.lemmas.List.{length-map}
 use Rattle.pq_base.specs.SignedWord.{sub, HasLetters}
 use Rattle.pq_base.specs.Joined.{Joined}
@@ -8,16 +8,34 @@ use Rattle.pc_presentation.specs.Pcp.{TailedPresentation, IsTailedPresentation}
 use Rattle.pc_presentation.specs.Rowed.{RowedPresentation, IsRowed, flat}
 use Rattle.pc_presentation.specs.Collection.{State, IsState, identity}
 use Rattle.pc_presentation.specs.Arithmetic.{IsMeaning, product_by, word_of, evaluate_from, HasArithmetic}
-use Rattle.pc_presentation.specs.Tailed.{Element, rowed_presentation}
+use Rattle.pc_presentation.specs.Tailed.{Element, rowed_presentation, IsElement, with_state}
 use Rattle.pc_presentation.specs.ImageElements.{states_of, AreImageElements}
 use Rattle.pc_presentation.proofs.PcpLaws.{offered-two}
 use Rattle.pc_presentation.proofs.RowLaws.{identity-state}
 use Rattle.pc_presentation.proofs.TailedLaws.{rowed_presentation-is}
+use Rattle.pc_presentation.proofs.ElementConditions.{with_state-element}
 use Rattle.pc_presentation.proofs.CollectorArithmetic.{collectors_have_arithmetic, identity-word}
 
 module _ (T : TailedPresentation) (is : IsTailedPresentation T) where
   pub big_prime : 1 < T.presentation.prime
   big_prime = let two = offered-two T.presentation.prime is.prime in omega arith
+
+  -- an element that was cleared
+  pub cleared-identity : (e e' : Element) → IsElement T e
+      → e' ≡ with_state e (record { exponents = replicate (length e.state.exponents) 0; row = replicate (length e.state.row) 0 })
+      → e' ≡ with_state e (identity (rowed_presentation T) T.presentation.rank)
+  cleared-identity e e' h q =
+      q
+      ∙ ap (λ (n : ℕ). with_state e (record { exponents = replicate n 0; row = replicate (length e.state.row) 0 })) h.state.exponents.count
+      ∙ ap (λ (n : ℕ). with_state e (record { exponents = replicate T.presentation.rank 0; row = replicate n 0 })) h.state.row.count
+
+  pub cleared-is_element : (e e' : Element) → IsElement T e
+      → e' ≡ with_state e (record { exponents = replicate (length e.state.exponents) 0; row = replicate (length e.state.row) 0 })
+      → IsElement T e'
+  cleared-is_element e e' h q =
+      let big = big_prime in
+      subst (λ (z : Element). IsElement T z) (sym (cleared-identity e e' h q))
+      (with_state-element T e h (identity (rowed_presentation T) T.presentation.rank) (identity-state (rowed_presentation T) T.presentation.rank (omega arith)))
 
   module _ (push : State → ℕ → State) (reaches : IsRowed (rowed_presentation T) → 0 < T.presentation.prime → IsMeaning (rowed_presentation T) push) where
     pub meaning_at : IsMeaning (rowed_presentation T) push

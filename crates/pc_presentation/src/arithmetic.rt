@@ -14,7 +14,7 @@ ghost use Rattle.pc_presentation.specs.ImageElements.{states_of, AreImageElement
 use crate::collect::Collect;
 use crate::elem::Elem;
 use crate::pcp::Pcp;
-use crate::pushing::{divide, multiply, multiply_along, multiply_by_power};
+use crate::pushing::{divide, multiply_along, multiply_by_power, multiply_into};
 use crate::scratch::Scratch;
 
 /// The product of two elements: the letters of `v` are pushed on `u`, and the tails of `v` are added.
@@ -28,8 +28,7 @@ pub fn product<C: Collect>(s: &mut Scratch<C>, pcp: &Pcp, u: &Elem, v: &Elem, ou
     ensures product { let Y = rowed_presentation pcp.now in out.new.state ≡ product_by Y (C.meaning Y) u.now.state v.now.state }
     ensures joined { let Y = rowed_presentation pcp.now in Joined (flat Y) (word_of Y out.new.state) (word_of Y u.now.state ++ word_of Y v.now.state) }
 {
-    out.copy_from(u);
-    multiply(&mut s.collector, pcp, out, v);
+    multiply_into(&mut s.collector, pcp, u, v, out);
 }
 
 /// The inverse of an element: its product behind the element is the identity, with a row of zeros over the tails.
@@ -61,10 +60,8 @@ pub fn commutator<C: Collect>(s: &mut Scratch<C>, pcp: &Pcp, u: &Elem, v: &Elem,
     ensures joined { let Y = rowed_presentation pcp.now in
         Joined (flat Y) (word_of Y out.new.state) (comm (word_of Y u.now.state) (word_of Y v.now.state)) }
 {
-    s.left.copy_from(v);
-    multiply(&mut s.collector, pcp, &mut s.left, u);
-    out.copy_from(u);
-    multiply(&mut s.collector, pcp, out, v);
+    multiply_into(&mut s.collector, pcp, v, u, &mut s.left);
+    multiply_into(&mut s.collector, pcp, u, v, out);
     divide(&mut s.collector, pcp, &mut s.left, out);
 }
 

@@ -53,6 +53,26 @@ pub(crate) fn multiply<C: Collect>(collector: &mut C, pcp: &Pcp, at: &mut Elem, 
     at.add_tails(factor.tail());
 }
 
+/// Makes `out` the product of two elements.
+pub(crate) fn multiply_into<C: Collect>(
+    collector: &mut C,
+    pcp: &Pcp,
+    u: &Elem,
+    v: &Elem,
+    out: &mut Elem,
+)
+    requires serves { C.serves collector.old pcp.now.presentation.rank }
+    requires left { IsElement pcp.now u.now }
+    requires right { IsElement pcp.now v.now }
+    requires out { IsElement pcp.now out.old }
+    ensures serves { C.serves collector.new pcp.now.presentation.rank }
+    ensures element { IsElement pcp.now out.new }
+    ensures product { let Y = rowed_presentation pcp.now in out.new.state ≡ product_by Y (C.meaning Y) u.now.state v.now.state }
+{
+    out.copy_from(u);
+    multiply(collector, pcp, out, v);
+}
+
 /// Replaces `out` by the element whose product behind `at` it was. Afterwards `at` has the exponents that `out` had.
 pub(crate) fn divide<C: Collect>(collector: &mut C, pcp: &Pcp, at: &mut Elem, out: &mut Elem)
     requires serves { C.serves collector.old pcp.now.presentation.rank }

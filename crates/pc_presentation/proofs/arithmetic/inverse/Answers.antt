@@ -20,9 +20,4 @@ pub returns-clause-joined : goal.returns-clause-joined
 returns-clause-joined g c =
     (arithmetic_at c.args.pcp.now c.requires.out.presentation (g.C.Collect.meaning (rowed_presentation c.args.pcp.now))
     (g.met.C.Collect.reaches (rowed_presentation c.args.pcp.now))).inverses c.args.u.now.state c.divide.new.out.state c.requires.element.state
-    c.divide.ensures.out.state
-    (sym (ap (λ (e : Element). product_by (rowed_presentation c.args.pcp.now) (g.C.Collect.meaning (rowed_presentation c.args.pcp.now)) e.state c.divide.new.out.state)
-    c.copy_from.ensures)
-    ∙ c.divide.ensures.quotient
-    ∙ ap (λ (e : Element). e.state)
-    (cleared-identity c.args.pcp.now c.requires.out.presentation c.args.out.now c.clear.new.self c.requires.out c.clear.ensures))
+    c.divide.ensures.out.state (returns-clause-inverse g c)

@@ -1,14 +1,11 @@
 -- How far loops of pushes have come, whatever a push is: what is left to push after a step, pushed on the new element, is
 -- what was left before it, pushed on the old one.
-use Rattle.std.proofs.Common.{◌≡◌, ℕ, suc, ◌+◌, ◌-◌, ◌<◌, ◌≤◌, List, get_or, length, replicate, drop, ap, sym, ◌∙◌, subst, arith}
-use Rattle.std.proofs.Math.ListN.{drop_of_length-le}
+use Rattle.std.proofs.Common.{◌≡◌, ℕ, suc, ◌+◌, ◌-◌, ◌<◌, List, get_or, length, replicate, drop, ap, sym, ◌∙◌, subst, arith}
 use Rattle.std.proofs.lemmas.List.{drop_more}
 use Rattle.pq_base.specs.Presentation.{IsNormal}
 use Rattle.pc_presentation.specs.Pcp.{TailedPresentation}
-use Rattle.pc_presentation.specs.Rowed.{RowedPresentation}
-use Rattle.pc_presentation.specs.Collection.{State, IsState, spelled, add_row, push_word}
-use Rattle.pc_presentation.specs.Arithmetic.{IsMeaning, product_by}
-use Rattle.pc_presentation.specs.Tailed.{Element, rowed_presentation, IsElement, with_state}
+use Rattle.pc_presentation.specs.Collection.{State, spelled, add_row, push_word}
+use Rattle.pc_presentation.specs.Tailed.{Element, IsElement, with_state}
 use Rattle.pc_presentation.proofs.PushLaws.{push_word-append}
 use Rattle.pc_presentation.proofs.ElementConditions.{add_row-element}
 
@@ -21,11 +18,6 @@ pub copies-left : (f : State → ℕ → State) (e e' : Element) (n k i : ℕ) �
 copies-left f e e' n k i h q =
     let more : suc (n - (k + 1)) ≡ n - k = omega arith in
     ap (λ (z : Element). after f z (replicate (n - (k + 1)) i)) q ∙ ap (λ (m : ℕ). after f e (replicate m i)) more
-
-pub no_copies-left : (f : State → ℕ → State) (e : Element) (n k i : ℕ) → n ≤ k → after f e (replicate (n - k) i) ≡ e
-no_copies-left f e n k i h =
-    let none : n - k ≡ 0 = omega arith in
-    ap (λ (m : ℕ). after f e (replicate m i)) none
 
 pub spelled-left : (f : State → ℕ → State) (e e' : Element) (j times : ℕ) (xs : List ℕ) → j < length xs → times ≡ get_or xs j 0
     → e' ≡ after f e (replicate times ((j + 1) - 1))
@@ -40,20 +32,7 @@ spelled-left f e e' j times xs h t q =
     ∙ ap (with_state e) (sym (push_word-append f e.state (replicate (get_or xs j 0) j) (spelled (suc j) (drop (j + 1) xs))))
     ∙ ap (λ (w : List ℕ). after f e (spelled j w)) (sym (drop_more xs j 0 h))
 
-pub no_letters-left : (f : State → ℕ → State) (e : Element) (j : ℕ) (xs : List ℕ) → length xs ≤ j → after f e (spelled j (drop j xs)) ≡ e
-no_letters-left f e j xs h = ap (λ (w : List ℕ). after f e (spelled j w)) (drop_of_length-le xs h)
-
--- the letters of a factor pushed, and its row added
-pub product-made : (Y : RowedPresentation) (f : State → ℕ → State) (e m e' : Element) (v : State) (j : ℕ) → length v.exponents ≤ j
-    → after f m (spelled j (drop j v.exponents)) ≡ after f e (spelled 0 v.exponents)
-    → m.prime ≡ Y.base.prime
-    → e' ≡ with_state m (add_row m.prime v.row m.state)
-    → e' ≡ with_state e (product_by Y f e.state v)
-product-made Y f e m e' v j past w p q =
-    q
-    ∙ ap (λ (n : ℕ). with_state m (add_row n v.row m.state)) p
-    ∙ ap (λ (z : Element). with_state z (add_row Y.base.prime v.row z.state)) (sym (no_letters-left f m j v.exponents past) ∙ w)
-
+-- a row that was added
 pub row_added : (T : TailedPresentation) (m e' : Element) (x y : List ℕ) → IsElement T m → IsNormal T.presentation.prime T.tails y → x ≡ y
     → e' ≡ with_state m (add_row m.prime x m.state) → IsElement T e'
 row_added T m e' x y h n q r =

@@ -1,8 +1,7 @@
-use Rattle.std.proofs.Common.{◌≡◌, ◌≤◌, ◌<◌, ◌-◌, ◌+◌, ℕ, get_or, length, ap, ◌∙◌, arith}
+use Rattle.std.proofs.Common.{◌≡◌, ◌<◌, ◌-◌, ◌+◌, ℕ, get_or, length, ap, ◌∙◌, arith}
 use Rattle.fp_rows.specs.Row.{PrimeRow}
-use Rattle.pc_presentation.specs.Collection.{add_row}
-use Rattle.pc_presentation.specs.Tailed.{rowed_presentation, with_state}
-use Rattle.pc_presentation.proofs.PushesLeft.{spelled-left, product-made, row_added}
+use Rattle.pc_presentation.specs.Tailed.{rowed_presentation}
+use Rattle.pc_presentation.proofs.PushesLeft.{spelled-left, row_added}
 use Rattle.pc_presentation.proofs.pushing.multiply.Goals as goal
 
 pub loop-i-preserved : goal.loop-i-preserved
@@ -24,14 +23,3 @@ pub returns-clause-element : goal.returns-clause-element
 returns-clause-element g c =
     row_added c.args.pcp.now c.loop-i.at c.add_tails.new.self c.tail.result.now.entries c.args.factor.now.state.row c.loop-i.invariant.1
     c.requires.factor.state.row (ap (λ (r : PrimeRow). r.entries) c.tail.ensures) c.add_tails.ensures
-
-pub returns-clause-product : goal.returns-clause-product
-returns-clause-product g c =
-    let Y = rowed_presentation c.args.pcp.now in
-    let count = c.requires.factor.state.exponents.count in
-    let rank = c.rank-i-end.ensures.rank in
-    let test = c.loop-i-test.false in
-    let past : length c.args.factor.now.state.exponents ≤ c.loop-i.i = omega arith in
-    product-made (rowed_presentation c.args.pcp.now) (g.C.Collect.meaning (rowed_presentation c.args.pcp.now)) c.args.at.now c.loop-i.at c.add_tails.new.self
-    c.args.factor.now.state c.loop-i.i past c.loop-i.invariant.2 c.loop-i.invariant.1.prime
-    (c.add_tails.ensures ∙ ap (λ (r : PrimeRow). with_state c.loop-i.at (add_row c.loop-i.at.prime r.entries c.loop-i.at.state)) c.tail.ensures)

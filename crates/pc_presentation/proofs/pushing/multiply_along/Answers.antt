@@ -1,6 +1,5 @@
-use Rattle.std.proofs.Common.{◌≡◌, ℤ, pos, get_or, length, FitsSigned, w32, rules, ap, ◌∙◌, subst, sym}
+use Rattle.std.proofs.Common.{◌≡◌, pos, get_or, length, FitsSigned, w32, rules, ◌∙◌, subst, sym}
 use Rattle.std.proofs.lemmas.Int.{to_z-of_z}
-use Rattle.pq_base.specs.SignedWord.{IsLetter}
 use Rattle.pc_presentation.specs.Tailed.{Element, rowed_presentation, IsElement, one_of}
 use Rattle.pc_presentation.specs.ImageElements.{letter_value}
 use Rattle.pc_presentation.proofs.ValueSteps.{letter-get_or, value-element, letters-left}

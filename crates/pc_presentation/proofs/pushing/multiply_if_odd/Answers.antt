@@ -1,4 +1,4 @@
-use Rattle.std.proofs.Common.{◌≡◌, ◌%◌, ap, arith}
+use Rattle.std.proofs.Common.{◌%◌, ap, arith}
 use Rattle.pc_presentation.specs.Rowed.{flat}
 use Rattle.pc_presentation.specs.Arithmetic.{word_of}
 use Rattle.pc_presentation.specs.Tailed.{Element, rowed_presentation}

@@ -9,8 +9,8 @@ use Rattle.pq_base.specs.Table.{AllBelow}
 use Rattle.pq_base.specs.Presentation.{IsNormal}
 use Rattle.fp_rows.specs.Rows.{add_scaled}
 use Rattle.pc_presentation.specs.Pcp.{TailedPresentation, IsTailedPresentation}
-use Rattle.pc_presentation.specs.Rowed.{RowedPresentation, IsRowed, row_sum}
-use Rattle.pc_presentation.specs.Collection.{State, IsState, spelled, push_word}
+use Rattle.pc_presentation.specs.Rowed.{row_sum}
+use Rattle.pc_presentation.specs.Collection.{State, spelled, push_word}
 use Rattle.pc_presentation.specs.Arithmetic.{IsMeaning, product_by}
 use Rattle.pc_presentation.specs.Tailed.{Element, rowed_presentation, IsElement, with_state}
 use Rattle.pc_presentation.proofs.PcpLaws.{offered-two}

@@ -6,7 +6,7 @@ use Rattle.pq_base.specs.SignedWord.{copies}
 use Rattle.pq_base.specs.Presentation.{Presentation}
 use Rattle.pq_base.specs.Joined.{Joined}
 use Rattle.pq_base.proofs.WordLaws.{copies-add, copies-mul}
-use Rattle.pq_base.proofs.JoinedLaws.{joined-trans, joined-from_equal, joined-append, joined-append_left, joined-copies}
+use Rattle.pq_base.proofs.JoinedLaws.{joined-trans, joined-from_equal, joined-append, joined-copies}
 
 module _ (P : Presentation) (u b : List ℤ) where
   pub odd-joined : (x : List ℤ) (r : ℕ) → r ≡ 1 → Joined P x (u ++ b) → Joined P x (u ++ copies b r)

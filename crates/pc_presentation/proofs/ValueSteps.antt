@@ -1,10 +1,10 @@
 -- Evaluating a word letter by letter: what is left of it, from the new element on, has the value that it had before.
-use Rattle.std.proofs.Common.{◌≡◌, ℕ, zero, suc, ◌+◌, ◌<◌, ℤ, pos, negsuc, List, [], ◌∷◌, get_or, length, drop, All, ap, sym, ◌∙◌, subst, arith}
+use Rattle.std.proofs.Common.{◌≡◌, ℕ, zero, suc, ◌+◌, ◌<◌, ℤ, pos, negsuc, List, [], ◌∷◌, get_or, length, drop, ap, sym, ◌∙◌, arith}
 use Rattle.std.proofs.Math.ListN.{get_or-map}
 use Rattle.std.proofs.lemmas.List.{drop_more}
 use Rattle.pq_base.specs.SignedWord.{IsLetter, HasLetters}
 use Rattle.pc_presentation.specs.Pcp.{TailedPresentation}
-use Rattle.pc_presentation.specs.Collection.{State, identity}
+use Rattle.pc_presentation.specs.Collection.{State}
 use Rattle.pc_presentation.specs.Arithmetic.{product_by, evaluate_from}
 use Rattle.pc_presentation.specs.Tailed.{Element, rowed_presentation, IsElement, one_of, with_state}
 use Rattle.pc_presentation.specs.ImageElements.{states_of, letter_value, AreImageElements}

@@ -1,5 +1,4 @@
 -- What contracts see of a scratch, and when it was made for a presentation.
-use Rattle.std.specs.Prelude.{◌≡◌, ℕ, length}
 use Rattle.pc_presentation.specs.Pcp.{TailedPresentation}
 use Rattle.pc_presentation.specs.Tailed.{Element, IsElement}
 

@@ -1,8 +1,9 @@
 //! Power-commutator presentations and answers as values, and the theory of collection. A `Pcp` keeps that its relations
 //! are those of a presentation, each with a tail or none; a `PcpBuilder` makes one, relation by relation; an `Answer`
 //! keeps the conditions of an answer. Contracts see each of them as a record of lists, in which a word is the list of the
-//! exponents of its generators. The `specs/` also say what a directed step, the plain rule and an overlap are; `laws`
-//! states what is proved of them: where overlaps agree the presentation is consistent, and normal words form a group.
+//! exponents of its generators. `arithmetic` computes with elements over any collector. The `specs/` also say what a
+//! directed step, the plain rule and an overlap are; `laws` states what is proved of them: where overlaps agree the
+//! presentation is consistent, and normal words form a group.
 #![tactic(auto)]
 
 pub mod answer;

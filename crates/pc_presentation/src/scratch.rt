@@ -11,7 +11,7 @@ use std::alloc::Global;
 use std::marker::Model;
 
 /// A collector, and two elements to work in. Only `new` takes memory.
-#[derive(Drop)]
+#[derive(Debug, Drop)]
 pub struct Scratch<C: Collect> {
     pub(crate) left: Elem,
     pub(crate) right: Elem,

@@ -51,3 +51,8 @@ pub mod EntryLaws
 pub mod TailedLaws
 pub mod ElementLaws
 pub mod ElementConditions
+pub mod PushesLeft
+pub mod Division
+pub mod TailedArithmetic
+pub mod ValueSteps
+pub mod RepeatedSquares

@@ -27,7 +27,7 @@ difference-added p a t l m =
     add-mod-mod a (t + (p - a)) p ∙ ap (λ (x : ℕ). x % p) e ∙ add-mod_left p t ∙ mod-eq_of_lt m
 
 -- rows
-row_difference : (p q : ℕ) (x y : List ℕ) → IsNormal p q x → IsNormal p q y → row_sum p x (row_sum p y (negative_row p x)) ≡ y
+pub row_difference : (p q : ℕ) (x y : List ℕ) → IsNormal p q x → IsNormal p q y → row_sum p x (row_sum p y (negative_row p x)) ≡ y
 row_difference p q x y h i =
     row_sum-comm p x (row_sum p y (negative_row p x))
     ∙ row_sum-assoc p y (negative_row p x) x
@@ -49,10 +49,10 @@ module _ (Y : RowedPresentation) (rowed : IsRowed Y) (big : 1 < Y.base.prime) (p
     pub earlier : (j : ℕ) → j < i → get_or t.exponents j 0 ≡ get_or s.exponents j 0
     pub own : get_or t.exponents i 0 ≡ (get_or s.exponents i 0 + c) % Y.base.prime
 
-  exponent-below : (s : State) (i : ℕ) → IsState Y Y.base.rank s → get_or s.exponents i 0 < Y.base.prime
+  pub exponent-below : (s : State) (i : ℕ) → IsState Y Y.base.rank s → get_or s.exponents i 0 < Y.base.prime
   exponent-below s i h = get_or-below Y.base.prime s.exponents i (omega arith) h.exponents.below
 
-  push-copies : (c i : ℕ) (s : State) → IsState Y Y.base.rank s → i < Y.base.rank → AfterCopies s i c (push_word push s (replicate c i))
+  pub push-copies : (c i : ℕ) (s : State) → IsState Y Y.base.rank s → i < Y.base.rank → AfterCopies s i c (push_word push s (replicate c i))
   push-copies zero i s h l =
       let b = exponent-below s i h in
       record {
@@ -91,7 +91,7 @@ module _ (Y : RowedPresentation) (rowed : IsRowed Y) (big : 1 < Y.base.prime) (p
         earlier = λ j m. z.earlier j (omega arith) ∙ r.earlier j m;
       })
 
-  same_exponents : (s t : State) → IsState Y Y.base.rank s → IsState Y Y.base.rank t → ((j : ℕ) → j < Y.base.rank → get_or s.exponents j 0 ≡ get_or t.exponents j 0) → s.exponents ≡ t.exponents
+  pub same_exponents : (s t : State) → IsState Y Y.base.rank s → IsState Y Y.base.rank t → ((j : ℕ) → j < Y.base.rank → get_or s.exponents j 0 ≡ get_or t.exponents j 0) → s.exponents ≡ t.exponents
   same_exponents s t h i e =
       let c = h.exponents.count in
       let d = i.exponents.count in

@@ -12,3 +12,5 @@ pub mod Arithmetic
 pub mod NormalTable
 pub mod CollectionLaws
 pub mod Tailed
+pub mod Scratch
+pub mod ImageElements

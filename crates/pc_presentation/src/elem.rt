@@ -1,7 +1,7 @@
 //! Elements: exponents of the generators, and a row over the tails.
 
 ghost use Rattle.std.specs.Prelude.{◌≡◌, ◌≤◌, ◌<◌, ◌-◌, get_or, length, replicate, slice_set, take, drop, ◌++◌, IfOk};
-ghost use Rattle.fp_rows.specs.Rows.{IsRow};
+ghost use Rattle.fp_rows.specs.Rows.{IsRow, add_scaled};
 ghost use Rattle.fp_rows.specs.Row.{IsColumn};
 ghost use Rattle.pc_presentation.specs.Pcp.{unit_row};
 ghost use Rattle.pc_presentation.specs.Collection.{add_row};
@@ -130,6 +130,19 @@ impl Elem {
     {
         let _residues = row.prime();
         self.tails.add_scaled(row, 1);
+    }
+
+    /// Adds `k` times a row to the tails.
+    pub(crate) fn add_scaled_tails(&mut self, row: &Row, k: u8)
+        requires prime { row.now.prime ≡ self.old.prime }
+        requires width { length row.now.entries ≡ length self.old.state.row }
+        requires factor { k < self.old.prime }
+        ensures { self.new ≡ with_state self.old (record {
+          exponents = self.old.state.exponents;
+          row = add_scaled self.old.prime k self.old.state.row row.now.entries;
+        }) }
+    {
+        self.tails.add_scaled(row, k);
     }
 }
 

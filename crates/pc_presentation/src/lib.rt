@@ -1,11 +1,13 @@
 //! Power-commutator presentations and answers as values, and the theory of collection. A `Pcp` keeps that its relations
 //! are those of a presentation, each with a tail or none; a `PcpBuilder` makes one, relation by relation; an `Answer`
 //! keeps the conditions of an answer. Contracts see each of them as a record of lists, in which a word is the list of the
-//! exponents of its generators. The `specs/` also say what a directed step, the plain rule and an overlap are; `laws`
-//! states what is proved of them: where overlaps agree the presentation is consistent, and normal words form a group.
+//! exponents of its generators. `arithmetic` computes with elements over any collector. The `specs/` also say what a
+//! directed step, the plain rule and an overlap are; `laws` states what is proved of them: where overlaps agree the
+//! presentation is consistent, and normal words form a group.
 #![tactic(auto)]
 
 pub mod answer;
+pub mod arithmetic;
 pub mod builder;
 pub mod collect;
 mod copies;
@@ -14,17 +16,21 @@ pub mod elem;
 pub mod laws;
 mod parts;
 pub mod pcp;
+mod pushing;
 pub mod relation;
+pub mod scratch;
 mod store;
 pub mod syllable;
 #[cfg(test)]
 mod tests;
 
 pub use answer::Answer;
+pub use arithmetic::{commutator, evaluate, inverse, power, product, value};
 pub use builder::{PcpBuilder, PcpRefusal};
 pub use collect::Collect;
 pub use definition::Definition;
 pub use elem::Elem;
 pub use pcp::Pcp;
 pub use relation::Relation;
+pub use scratch::Scratch;
 pub use syllable::Syllable;

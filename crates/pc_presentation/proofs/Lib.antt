@@ -51,3 +51,5 @@ pub mod EntryLaws
 pub mod TailedLaws
 pub mod ElementLaws
 pub mod ElementConditions
+pub mod RelationSides
+pub mod OverlapWays

@@ -53,3 +53,4 @@ pub mod ElementLaws
 pub mod ElementConditions
 pub mod RelationSides
 pub mod OverlapWays
+pub mod OverlapNumberLaws

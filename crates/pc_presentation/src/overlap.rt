@@ -54,8 +54,8 @@ pub fn left_way<C: Collect>(collector: &mut C, pcp: &Pcp, overlap: Overlap, at: 
     }
 }
 
-/// Collects the right way of an overlap: the element is what its letters make of the element one, with the row of the
-/// relation that the right way begins with.
+/// Collects the right way of an overlap, which ends with the right side of a relation: the element is what its letters make
+/// of the element one, with the tail of that relation added.
 pub fn right_way<C: Collect>(collector: &mut C, pcp: &Pcp, overlap: Overlap, at: &mut Elem)
     requires serves { C.serves collector.old pcp.now.presentation.rank }
     requires element { IsElement pcp.now at.old }

@@ -1,4 +1,4 @@
-use Rattle.std.proofs.Common.{ap, sym, ◌∙◌}
+use Rattle.std.proofs.Common.{ap, ◌∙◌}
 use Rattle.pc_presentation.specs.Collection.{Configuration, identity, push_configuration}
 use Rattle.pc_presentation.specs.Tailed.{rowed_presentation, with_state, side_with_tail}
 use Rattle.pc_presentation.proofs.PcpLaws.{offered-positive}

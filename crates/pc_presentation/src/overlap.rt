@@ -1,6 +1,6 @@
 //! Overlaps by numbers, and the two ways of collecting them.
 
-ghost use Rattle.std.specs.Prelude.{◌≡◌, ◌≤◌, None};
+ghost use Rattle.std.specs.Prelude.{◌≡◌, ◌↔◌, None, IsTrue};
 ghost use Rattle.pc_presentation.specs.Syllable.{AreGenerators, syllable};
 ghost use Rattle.pc_presentation.specs.Relation.{IsRelation};
 ghost use Rattle.pc_presentation.specs.Collection.{identity, push_configuration};
@@ -25,6 +25,19 @@ pub enum Overlap {
     Right(u16, u16),
     /// `Own(i)`: the power of `a_i` to p + 1.
     Own(u16),
+}
+
+impl Overlap {
+    /// Whether the numbers are those of `rank` generators, and fall strictly.
+    pub fn is_of(self, rank: u16) -> bool
+        ensures { IsTrue result ↔ AreOverlapNumbers rank self }
+    {
+        match self {
+            Overlap::Triple(k, j, i) => 1 <= i && i < j && j < k && k <= rank,
+            Overlap::Left(j, i) | Overlap::Right(j, i) => 1 <= i && i < j && j <= rank,
+            Overlap::Own(i) => 1 <= i && i <= rank,
+        }
+    }
 }
 
 /// Collects the left way of an overlap: the element is what its letters make of the element one.
@@ -126,5 +139,6 @@ fn collect_with_side<C: Collect>(
         at.new ≡ with_state at.old (push_configuration Y (C.meaning Y) (identity Y Y.base.rank) (before_side pcp.now word.now relation)) }
 {
     collect(collector, pcp, at, word);
-    collector.push_word(pcp, at, pcp.word(relation), pcp.tail(relation));
+    let tail = pcp.tail(relation);
+    collector.push_word(pcp, at, pcp.word(relation), tail);
 }

@@ -23,4 +23,4 @@ returns-clause-collected g c =
     (side_with_tail T c.args.relation) c.requires.generators c.collect.ensures.collected
     (c.push_word.ensures.pushed
     ∙ ap (λ (d : Configuration). with_state c.collect.new.at (push_configuration (rowed_presentation T) push c.collect.new.at.state d))
-    (side-read T c.args.relation c.word.result.now c.tail.result c.word.ensures c.tail.ensures))
+    (side-read T c.args.relation c.word.result.now c.tail-tail.result c.word.ensures c.tail-tail.ensures))

@@ -131,8 +131,21 @@ fn rule(relation: Relation, side: [u8; 8], tail: Option<u16>) -> Rule {
 fn compare(rt: &impl Abort, alloc: Global, draws: &mut Draws, case: &Case) -> Result<(), Fail> {
     assert!(rt; 0 < case.shape.rank && case.shape.rank <= 8);
     let pcp = presentation(alloc, case.shape, &case.rules)?;
-    let mut plain = Plain::fresh(alloc, &pcp)?;
-    let mut at = Elem::one(alloc, &pcp)?;
+    compare_in(rt, alloc, draws, case, &pcp)
+}
+
+fn compare_in(
+    rt: &impl Abort,
+    alloc: Global,
+    draws: &mut Draws,
+    case: &Case,
+    pcp: &Pcp,
+) -> Result<(), Fail>
+    requires some { 0 < case.now.shape.rank }
+    requires few { case.now.shape.rank ≤ 8 }
+{
+    let mut plain = Plain::fresh(alloc, pcp)?;
+    let mut at = Elem::one(alloc, pcp)?;
     let mut listed = Listed {
         exponents: [0; 8],
         tails: [0; 5],
@@ -142,7 +155,7 @@ fn compare(rt: &impl Abort, alloc: Global, draws: &mut Draws, case: &Case) -> Re
         let mut word = letters(alloc, at.exponents())?;
         word.push(generator)?;
         let mut tails = listed.tails;
-        push_checked(rt, &mut plain, &pcp, &mut at, generator);
+        push_checked(rt, &mut plain, pcp, &mut at, generator);
         push(&case.rules, &mut listed, generator, 8);
         assert!(rt; listed.exponents.as_slice().starts_with(at.exponents()));
         assert_eq!(rt; entries(at.tail()), listed.tails);

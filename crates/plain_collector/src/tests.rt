@@ -90,8 +90,6 @@ fn difference(left: [u8; 5], right: [u8; 5]) -> [u8; 5] {
 fn both_ways_of_the_overlaps_of_a_cover(rt: HostRuntime) -> Result<(), Fail> {
     let pcp = cover(rt.alloc())?;
     let mut plain = Plain::fresh(rt.alloc(), &pcp)?;
-    let mut left = Elem::one(rt.alloc(), &pcp)?;
-    let mut right = Elem::one(rt.alloc(), &pcp)?;
     let none = [0; 5];
     let rows = [
         (Overlap::Triple(3, 2, 1), [1, 1, 0], [1, 1, 1, 0, 0], none),
@@ -117,6 +115,8 @@ fn both_ways_of_the_overlaps_of_a_cover(rt: HostRuntime) -> Result<(), Fail> {
     ];
     for (overlap, exponents, tails, row) in rows {
         assert!(rt; overlap.is_of(pcp.rank()));
+        let mut left = Elem::one(rt.alloc(), &pcp)?;
+        let mut right = Elem::one(rt.alloc(), &pcp)?;
         left_way(&mut plain, &pcp, overlap, &mut left);
         right_way(&mut plain, &pcp, overlap, &mut right);
         assert_eq!(rt; left.exponents(), exponents.as_slice(), "at {overlap:?}");

@@ -67,7 +67,7 @@ module _ (Y : RowedPresentation) (rowed : IsRowed Y) (big : 1 < Y.base.prime) wh
   left_way-row (own i) = zeros-normal Y.base.prime Y.width (omega arith)
 
   module _ (push : State → ℕ → State) (meaning : IsMeaning Y push) where
-    pushed-state : (u : List ℕ) (s : State) → IsState Y Y.base.rank s → AllBelow Y.base.rank u → IsState Y Y.base.rank (push_word push s u)
+    pub pushed-state : (u : List ℕ) (s : State) → IsState Y Y.base.rank s → AllBelow Y.base.rank u → IsState Y Y.base.rank (push_word push s u)
     pushed-state [] s h b = h
     pushed-state (i ∷ u) s h b = pushed-state u (push s i) (meaning.pushed s i h b.0).state b.1
 

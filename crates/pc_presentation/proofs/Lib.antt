@@ -56,3 +56,6 @@ pub mod Division
 pub mod TailedArithmetic
 pub mod ValueSteps
 pub mod RepeatedSquares
+pub mod RelationSides
+pub mod OverlapWays
+pub mod OverlapNumberLaws

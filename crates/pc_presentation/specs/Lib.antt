@@ -8,6 +8,7 @@ pub mod Parts
 pub mod Rowed
 pub mod Collection
 pub mod Overlaps
+pub mod OverlapNumbers
 pub mod Arithmetic
 pub mod NormalTable
 pub mod CollectionLaws

@@ -17,7 +17,7 @@ use Rattle.pc_presentation.specs.Collection.{Configuration, State, IsState, spel
 use Rattle.pc_presentation.specs.Tailed.{Element, rowed_presentation, IsElement, with_state, cleared_after, places_of, side_with_tail}
 use Rattle.pc_presentation.proofs.PushLaws.{push_word-append}
 use Rattle.pc_presentation.proofs.RowLaws.{row_sum-zeros}
-use Rattle.pc_presentation.proofs.TailedLaws.{power_side-with_tail, commutator_side-with_tail, generators-syllables_of, later-syllables_of}
+use Rattle.pc_presentation.proofs.RelationSides.{power_side-numbered, commutator_side-numbered}
 use Rattle.plain_collector.specs.Steps.{with_exponent, raised_by, raised, passed}
 use Rattle.plain_collector.proofs.PlainSteps.{cleared_state, plain_push-steps}
 
@@ -74,13 +74,10 @@ pub pass-step : (T : TailedPresentation) → IsTailedPresentation T → (e m e' 
     → e' ≡ with_state e (passed (rowed_presentation T) (i - 1) e.state (j - 1))
 pass-step T is e m e' j i one less last p q =
     let Y : RowedPresentation = rowed_presentation T in
-    let a : j ≡ suc (j - 1) = omega arith in
-    let b : i ≡ suc (i - 1) = omega arith in
     q
     ∙ ap (λ (z : Element). with_state z (push_configuration Y (plain_push Y) z.state (side_with_tail T (Commutator j i)))) p
     ∙ ap (λ (c : Configuration). with_state e (push_configuration Y (plain_push Y) (plain_push Y e.state (j - 1)) c))
-    (ap (λ (k : ℕ). side_with_tail T (Commutator k i)) a ∙ ap (λ (k : ℕ). side_with_tail T (Commutator (suc (j - 1)) k)) b
-    ∙ commutator_side-with_tail T is (j - 1) (i - 1) (omega arith) (omega arith))
+    (commutator_side-numbered T is j i one less last)
 
 -- the exponent raised
 raise-at : (T : TailedPresentation) (e : Element) (i : ℕ) (b : Bool) → eqb (suc (get_or e.state.exponents i 0)) T.presentation.prime ≡ b
@@ -94,11 +91,10 @@ pub raise-carry : (T : TailedPresentation) → IsTailedPresentation T → (e m e
     → e' ≡ with_state e (raised (rowed_presentation T) e.state (g - 1))
 raise-carry T is e m e' g one last c p q =
     let Y : RowedPresentation = rowed_presentation T in
-    let a : g ≡ suc (g - 1) = omega arith in
     q
     ∙ ap (λ (z : Element). with_state z (push_configuration Y (plain_push Y) z.state (side_with_tail T (Power g)))) p
     ∙ ap (λ (d : Configuration). with_state e (push_configuration Y (plain_push Y) (with_exponent e.state (g - 1) 0) d))
-    (ap (λ (k : ℕ). side_with_tail T (Power k)) a ∙ power_side-with_tail T is (g - 1) (omega arith))
+    (power_side-numbered T is g one last)
     ∙ raise-at T e (g - 1) true (eq-eqb (suc (get_or e.state.exponents (g - 1) 0)) T.presentation.prime (omega arith))
 
 pub raise-plain : (T : TailedPresentation) (e e' : Element) (g x : ℕ) → x < T.presentation.prime → x ≡ get_or e.state.exponents (g - 1) 0 + 1
@@ -137,28 +133,6 @@ push-made T e c r e' g j count one last p q w past =
 pub no_tail-added : (T : TailedPresentation) (e : Element) → IsElement T e → e ≡ with_state e (add_row T.presentation.prime (replicate T.tails 0) e.state)
 no_tail-added T e h =
     ap (λ (x : List ℕ). with_state e (record { exponents = e.state.exponents; row = x })) (sym (row_sum-zeros T.presentation.prime T.tails e.state.row h.state.row))
-
--- the generators of a right side
-pub right_side-count : (T : TailedPresentation) → IsTailedPresentation T → (r : Relation) → IsRelation T.presentation.rank r
-    → side_start r + length (right_side T.presentation r) ≡ T.presentation.rank
-right_side-count T is (Power i) h =
-    let c = (is.presentation.power_sides (i - 1) (omega arith)).count in
-    omega arith
-right_side-count T is (Commutator j i) h =
-    let c = (is.presentation.commutator_sides (j - 1) (i - 1) (omega arith) (omega arith)).count in
-    omega arith
-
-pub side-generators : (T : TailedPresentation) → IsTailedPresentation T → (r : Relation) → IsRelation T.presentation.rank r → (w : List Syllable)
-    → w ≡ syllables_of (side_start r) (right_side T.presentation r) → AreGenerators T.presentation.rank w
-side-generators T is r h w q =
-    let count = right_side-count T is r h in
-    subst (AreGenerators T.presentation.rank) (sym q)
-    (generators-syllables_of T.presentation.rank (side_start r) (right_side T.presentation r) (omega arith))
-
-pub side-later : (T : TailedPresentation) (r : Relation) (w : List Syllable) → w ≡ syllables_of (side_start r) (right_side T.presentation r)
-    → AreLater (side_start r) w
-side-later T r w q =
-    subst (AreLater (side_start r)) (sym q) (later-syllables_of (side_start r) (side_start r) (right_side T.presentation r) (omega arith))
 
 -- a copy with an entry more
 pub zero-entries : (n k : ℕ) → get_or (replicate {A = ℕ} n 0) k 0 ≡ 0

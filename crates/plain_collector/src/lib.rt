@@ -2,7 +2,13 @@
 //! on later generators alone, so that it is never deeper than the rank; it takes no memory and copies no word.
 #![tactic(auto)]
 
+#[cfg(test)]
+mod by_definition;
 pub mod plain;
+#[cfg(test)]
+mod random_tests;
 mod steps;
+#[cfg(test)]
+mod tests;
 
 pub use plain::Plain;

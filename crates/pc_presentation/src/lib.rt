@@ -31,7 +31,7 @@ pub use builder::{PcpBuilder, PcpRefusal};
 pub use collect::Collect;
 pub use definition::Definition;
 pub use elem::Elem;
-pub use overlap::Overlap;
+pub use overlap::{Overlap, two_ways};
 pub use pcp::Pcp;
 pub use relation::Relation;
 pub use scratch::Scratch;

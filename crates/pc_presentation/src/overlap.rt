@@ -6,12 +6,14 @@ ghost use Rattle.pc_presentation.specs.Relation.{IsRelation};
 ghost use Rattle.pc_presentation.specs.Collection.{identity, push_configuration};
 ghost use Rattle.pc_presentation.specs.Overlaps.{left_way, right_way};
 ghost use Rattle.pc_presentation.specs.OverlapNumbers.{AreOverlapNumbers, overlap_of, before_side};
+ghost use Rattle.pc_presentation.specs.Scratch.{IsScratch};
 ghost use Rattle.pc_presentation.specs.Tailed.{rowed_presentation, IsElement, with_state, sparse_configuration};
 
 use crate::collect::Collect;
 use crate::elem::Elem;
 use crate::pcp::Pcp;
 use crate::relation::Relation;
+use crate::scratch::Scratch;
 use crate::syllable::Syllable;
 
 /// An overlap: a word that can be collected in two ways. Generators count from 1, and fall strictly.
@@ -40,8 +42,22 @@ impl Overlap {
     }
 }
 
+/// Collects both ways of an overlap: the left one in the first element of the scratch, and the right one in the second.
+pub fn two_ways<C: Collect>(s: &mut Scratch<C>, pcp: &Pcp, overlap: Overlap)
+    requires scratch { IsScratch pcp.now s.old }
+    requires overlap { AreOverlapNumbers pcp.now.presentation.rank overlap }
+    ensures scratch { IsScratch pcp.now s.new }
+    ensures left { let Y = rowed_presentation pcp.now in
+        s.new.left.state ≡ push_configuration Y (C.meaning Y) (identity Y Y.base.rank) (left_way Y (overlap_of overlap)) }
+    ensures right { let Y = rowed_presentation pcp.now in
+        s.new.right.state ≡ push_configuration Y (C.meaning Y) (identity Y Y.base.rank) (right_way Y (overlap_of overlap)) }
+{
+    left_way(&mut s.collector, pcp, overlap, &mut s.left);
+    right_way(&mut s.collector, pcp, overlap, &mut s.right);
+}
+
 /// Collects the left way of an overlap: the element is what its letters make of the element one.
-pub fn left_way<C: Collect>(collector: &mut C, pcp: &Pcp, overlap: Overlap, at: &mut Elem)
+pub(crate) fn left_way<C: Collect>(collector: &mut C, pcp: &Pcp, overlap: Overlap, at: &mut Elem)
     requires serves { C.serves collector.old pcp.now.presentation.rank }
     requires element { IsElement pcp.now at.old }
     requires overlap { AreOverlapNumbers pcp.now.presentation.rank overlap }
@@ -69,7 +85,7 @@ pub fn left_way<C: Collect>(collector: &mut C, pcp: &Pcp, overlap: Overlap, at: 
 
 /// Collects the right way of an overlap, which ends with the right side of a relation: the element is what its letters make
 /// of the element one, with the tail of that relation added.
-pub fn right_way<C: Collect>(collector: &mut C, pcp: &Pcp, overlap: Overlap, at: &mut Elem)
+pub(crate) fn right_way<C: Collect>(collector: &mut C, pcp: &Pcp, overlap: Overlap, at: &mut Elem)
     requires serves { C.serves collector.old pcp.now.presentation.rank }
     requires element { IsElement pcp.now at.old }
     requires overlap { AreOverlapNumbers pcp.now.presentation.rank overlap }

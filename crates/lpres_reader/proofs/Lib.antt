@@ -64,3 +64,4 @@ pub mod CanonicalItems
 pub mod CanonicalLines
 pub mod CanonicalReads
 pub mod CanonicalLengths
+pub mod CanonicalSamples

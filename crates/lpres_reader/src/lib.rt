@@ -3,6 +3,8 @@
 #![tactic(auto)]
 
 mod canonical;
+#[cfg(test)]
+mod canonical_tests;
 mod depth;
 mod exponent;
 mod fault;

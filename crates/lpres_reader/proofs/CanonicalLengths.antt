@@ -1,12 +1,12 @@
 -- A canonical text has far fewer bytes than the reader may be given: a letter costs at most 40 of them, and a line and an
 -- arrow a few more.
-use Rattle.std.proofs.Common.{◌≡◌, ◌<◌, ◌≤◌, ◌+◌, ◌*◌, ◌-◌, ◌^◌, ℕ, zero, suc, Bool, true, false, List, [], ◌∷◌, ◌++◌, All, codes, decimal, length, map, sum_by, refl, ap, arith, length-append}
+use Rattle.std.proofs.Common.{◌≡◌, ◌≤◌, ◌+◌, ◌*◌, ℕ, zero, suc, Bool, true, false, List, [], ◌∷◌, ◌++◌, All, codes, decimal, length, map, sum_by, ap, arith, length-append}
 use Rattle.std.specs.Prelude.{ℤ, pos, negsuc, unsigned_abs, ◌==◌, if◌then◌else◌}
 use Rattle.std.specs.Ordering.{int_eq}
 use Rattle.std.proofs.lemmas.Fmt.{length-decimal-le}
 use Rattle.std.proofs.lemmas.List.Elements.{All-head, All-tail}
 use Rattle.std.proofs.lemmas.List.Sums.{sum_by-cons}
-use Rattle.pq_base.specs.LPresentation.{LPresentation, AreEndos}
+use Rattle.pq_base.specs.LPresentation.{AreEndos}
 use Rattle.lpres_reader.specs.declared.canonical.Run.{Run}
 use Rattle.lpres_reader.specs.Runs.{onto_run, onto_runs, runs_of}
 use Rattle.lpres_reader.specs.CanonicalText.{preceded, name_text, exponent_text, run_text, runs_text, word_text, generators_line, relator_lines, arrow_text, arrow_texts, endo_line, endo_lines, text_of_lines, canonical_text}

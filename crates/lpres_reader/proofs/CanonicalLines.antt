@@ -9,9 +9,9 @@ use Rattle.pq_base.specs.LPresentation.{AreWords}
 use Rattle.pq_base.specs.Name.{is_name_byte, IsName, IsNameText}
 use Rattle.pq_base.specs.SignedWord.{HasLetters}
 use Rattle.lpres_reader.specs.declared.canonical.Run.{Run}
-use Rattle.lpres_reader.specs.declared.token.Symbol.TheVariants.{Arrow, Caret, Minus, Comma}
+use Rattle.lpres_reader.specs.declared.token.Symbol.TheVariants.{Arrow, Caret, Comma}
 use Rattle.lpres_reader.specs.Runs.{runs_of}
-use Rattle.lpres_reader.specs.CanonicalText.{preceded, separated, name_text, word_text, generators_line, arrow_text, arrow_texts, endo_line}
+use Rattle.lpres_reader.specs.CanonicalText.{preceded, name_text, word_text, generators_line, arrow_text, arrow_texts, endo_line}
 use Rattle.lpres_reader.specs.Lines.{is_skipped}
 use Rattle.lpres_reader.specs.Tokens.{Token, name, number, symbol, StopsBefore, ReadsTokens, no_more, blank_first, name_first, symbol_first}
 use Rattle.lpres_reader.specs.Items as items
@@ -22,7 +22,7 @@ use Rattle.lpres_reader.proofs.CanonicalItems.{mappings_from, mappings-give}
 use Rattle.lpres_reader.proofs.CanonicalTokens.{exponent_tokens, run_tokens, further_tokens, runs_tokens, name_text-IsName, word_reads}
 use Rattle.lpres_reader.proofs.CanonicalWords.{word_means}
 use Rattle.lpres_reader.proofs.LineBytes.{is_plain_token}
-use Rattle.lpres_reader.proofs.NarrowForms.{names_read}
+use Rattle.lpres_reader.proofs.NamesLaws.{names_read}
 
 -- a line of tokens of some form, with no opening bracket, which is not skipped
 pub record IsWritten (form : List Token → Type 0) (line : List ℕ) : Type 0 where

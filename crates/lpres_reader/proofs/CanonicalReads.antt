@@ -1,5 +1,5 @@
 -- A canonical text reads as its presentation.
-use Rattle.std.proofs.Common.{◌≡◌, ◌≤◌, ℕ, false, List, [], ◌∷◌, ◌++◌, All, codes, length, map, refl, sym, ap, subst, ◌∙◌}
+use Rattle.std.proofs.Common.{◌≡◌, ◌≤◌, ℕ, false, List, [], ◌∷◌, ◌++◌, All, codes, length, map, refl, sym, ap, ◌∙◌}
 use Rattle.std.specs.Prelude.{ℤ, ◌==◌}
 use Rattle.std.proofs.lemmas.List.Elements.{All-head, All-tail}
 use Rattle.std.proofs.lemmas.List.Splits.{slice_split_at}
@@ -7,7 +7,7 @@ use Rattle.pq_base.specs.LPresentation.{LPresentation, IsLPresentation, AreWords
 use Rattle.pq_base.specs.Name.{IsName}
 use Rattle.pq_base.specs.SignedWord.{HasLetters}
 use Rattle.lpres_reader.specs.CanonicalText.{word_text, generators_line, relator_lines, endo_lines, text_of_lines, canonical_text}
-use Rattle.lpres_reader.specs.Lines.{is_skipped, lines_of, content_of}
+use Rattle.lpres_reader.specs.Lines.{lines_of, content_of}
 use Rattle.lpres_reader.specs.Tokens.{Token}
 use Rattle.lpres_reader.specs.Items.{ReadsItem, Item, fixed, iterated, endo}
 use Rattle.lpres_reader.specs.Limits.{AreShort, IsWithinLimits}

@@ -74,3 +74,4 @@ pub mod CanonicalItems
 pub mod CanonicalLines
 pub mod CanonicalReads
 pub mod CanonicalLengths
+pub mod CanonicalSamples

@@ -47,7 +47,12 @@ names_right ts = by (names_of ts) refl
     by (Some ns) e = subst (λ (p : Option (List (List ℕ))). AreNamesOf p ts) e (reads-names_of ts)
     by None e = λ ns d. let found : None ≡ Some ns = sym e ∙ names_of-reads d in cc
 
--- names without commas are these names alone
+-- names without commas are read
+pub names_read : (n : List ℕ) (ns : List (List ℕ)) → ReadsNames (map name (n ∷ ns)) (n ∷ ns)
+names_read n [] = last_name n
+names_read n (m ∷ ns) = next_name n (names_read m ns)
+
+-- and they are these names alone
 pub names_are : {ts : List Token} {ns : List (List ℕ)} → ReadsNames ts ns → (ms : List (List ℕ)) → ts ≡ map name ms → ns ≡ ms
 names_are (last_name n) [] e = absurd cc
 names_are (last_name n) (m ∷ []) e = let same : n ≡ m = cc in ap (λ (x : List ℕ). x ∷ []) same

@@ -5,7 +5,7 @@ use Rattle.std.specs.Ordering.{int_eq}
 use Rattle.std.proofs.lemmas.Bool.Decides.{Decides-int_eq}
 use Rattle.pq_base.specs.SignedWord.{copies, IsLetter, HasLetters}
 use Rattle.lpres_reader.specs.declared.canonical.Run.{Run}
-use Rattle.lpres_reader.specs.Runs.{run, onto_run, onto_runs, runs_of}
+use Rattle.lpres_reader.specs.Runs.{onto_run, onto_runs, runs_of}
 
 abbrev pub spread : List Run → List ℤ
 spread [] = []

@@ -3,6 +3,8 @@
 #![tactic(auto)]
 
 mod canonical;
+#[cfg(test)]
+mod canonical_tests;
 mod copies;
 mod depth;
 mod exponent;

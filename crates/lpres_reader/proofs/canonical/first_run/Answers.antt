@@ -1,4 +1,4 @@
-use Rattle.std.proofs.Common.{◌≡◌, ◌≤◌, ℤ, pos, List, ◌∷◌, get_or, length, FitsSigned, w32, ap, ap₂, sym, ◌∙◌, arith, rules}
+use Rattle.std.proofs.Common.{◌≡◌, ◌≤◌, ℤ, pos, List, ◌∷◌, length, FitsSigned, w32, ap, ap₂, sym, ◌∙◌, arith, rules}
 use Rattle.std.specs.List.{prefix_len}
 use Rattle.std.specs.Ordering.{int_eq}
 use Rattle.std.proofs.lemmas.Int.{to_z-of_z}

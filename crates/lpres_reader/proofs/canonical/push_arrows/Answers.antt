@@ -1,4 +1,4 @@
-use Rattle.std.proofs.Common.{◌≡◌, ◌<◌, ◌≤◌, ◌+◌, ◌++◌, [], ℕ, ℤ, List, codes, get_or, length, ap, sym, ◌∙◌, arith, append-nil}
+use Rattle.std.proofs.Common.{◌≡◌, ◌<◌, ◌+◌, ◌++◌, [], ℕ, ℤ, List, codes, get_or, length, ap, sym, ◌∙◌, arith, append-nil}
 use Rattle.std.specs.Global.{Vec}
 use Rattle.std.proofs.lemmas.List.{get_or_read}
 use Rattle.lpres_reader.specs.CanonicalText.{arrow_text}

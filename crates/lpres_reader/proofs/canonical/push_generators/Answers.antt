@@ -1,4 +1,4 @@
-use Rattle.std.proofs.Common.{◌≡◌, ◌≤◌, ◌++◌, [], ◌∷◌, List, ℕ, length, drop, drop_of_length-le, ap, ◌∙◌, arith}
+use Rattle.std.proofs.Common.{◌≤◌, ◌++◌, [], ◌∷◌, List, ℕ, length, drop, drop_of_length-le, ap, ◌∙◌, arith}
 use Rattle.lpres_reader.specs.CanonicalText.{generators_line}
 use Rattle.lpres_reader.proofs.WrittenLines.{generators_line-written}
 use Rattle.lpres_reader.proofs.canonical.push_generators.Goals as goal

@@ -154,18 +154,32 @@ fn compare_in(
         let generator = draws.below(case.shape.rank) + 1;
         let mut word = letters(alloc, at.exponents())?;
         word.push(generator)?;
-        let mut tails = listed.tails;
+        let tails = listed.tails;
         push_checked(rt, &mut plain, pcp, &mut at, generator);
         push(&case.rules, &mut listed, generator, 8);
         assert!(rt; listed.exponents.as_slice().starts_with(at.exponents()));
         assert_eq!(rt; entries(at.tail()), listed.tails);
         if case.is_consistent {
-            let normal = normal_word(alloc, &case.rules, word, &mut tails)?;
-            let letters = letters(alloc, at.exponents())?;
-            assert_eq!(rt; normal.as_slice(), letters.as_slice());
-            assert_eq!(rt; tails, listed.tails);
+            compare_steps(rt, alloc, &case.rules, word, tails, &at)?;
         }
     }
+    Ok(())
+}
+
+/// Directed steps from a word with tails lead to an element.
+fn compare_steps(
+    rt: &impl Abort,
+    alloc: Global,
+    rules: &Rules,
+    word: Vec<u16>,
+    tails: [u8; 5],
+    at: &Elem,
+) -> Result<(), Fail> {
+    let mut tails = tails;
+    let normal = normal_word(alloc, rules, word, &mut tails)?;
+    let letters = letters(alloc, at.exponents())?;
+    assert_eq!(rt; normal.as_slice(), letters.as_slice());
+    assert_eq!(rt; tails, entries(at.tail()));
     Ok(())
 }
 

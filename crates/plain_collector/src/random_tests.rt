@@ -126,6 +126,25 @@ fn rule(relation: Relation, side: [u8; 8], tail: Option<u16>) -> Rule {
     }
 }
 
+/// Whether an element has these exponents and tails.
+fn is_listed(at: &Elem, listed: &Listed) -> bool {
+    listed.exponents.as_slice().starts_with(at.exponents()) && entries(at.tail()) == listed.tails
+}
+
+/// Whether directed steps lead from a word with tails to an element.
+fn steps_lead_to(
+    alloc: Global,
+    rules: &Rules,
+    word: Vec<u16>,
+    tails: [u8; 5],
+    at: &Elem,
+) -> Result<bool, NoMemory> {
+    let mut tails = tails;
+    let normal = normal_word(alloc, rules, word, &mut tails)?;
+    let letters = letters(alloc, at.exponents())?;
+    Ok(normal.as_slice() == letters.as_slice() && tails == entries(at.tail()))
+}
+
 /// Pushes random generators by the collector and by the plain rule's definition, and in a consistent presentation by
 /// directed steps too.
 fn compare(rt: &impl Abort, alloc: Global, draws: &mut Draws, case: &Case) -> Result<(), Fail> {
@@ -157,29 +176,11 @@ fn compare_in(
         let tails = listed.tails;
         push_checked(rt, &mut plain, pcp, &mut at, generator);
         push(&case.rules, &mut listed, generator, 8);
-        assert!(rt; listed.exponents.as_slice().starts_with(at.exponents()));
-        assert_eq!(rt; entries(at.tail()), listed.tails);
+        assert!(rt; is_listed(&at, &listed));
         if case.is_consistent {
-            compare_steps(rt, alloc, &case.rules, word, tails, &at)?;
+            assert!(rt; steps_lead_to(alloc, &case.rules, word, tails, &at)?);
         }
     }
-    Ok(())
-}
-
-/// Directed steps from a word with tails lead to an element.
-fn compare_steps(
-    rt: &impl Abort,
-    alloc: Global,
-    rules: &Rules,
-    word: Vec<u16>,
-    tails: [u8; 5],
-    at: &Elem,
-) -> Result<(), Fail> {
-    let mut tails = tails;
-    let normal = normal_word(alloc, rules, word, &mut tails)?;
-    let letters = letters(alloc, at.exponents())?;
-    assert_eq!(rt; normal.as_slice(), letters.as_slice());
-    assert_eq!(rt; tails, entries(at.tail()));
     Ok(())
 }
 

@@ -126,6 +126,25 @@ fn rule(relation: Relation, side: [u8; 8], tail: Option<u16>) -> Rule {
     }
 }
 
+/// Whether an element has these exponents and tails.
+fn is_listed(at: &Elem, listed: &Listed) -> bool {
+    listed.exponents.as_slice().starts_with(at.exponents()) && entries(at.tail()) == listed.tails
+}
+
+/// Whether directed steps lead from a word with tails to an element.
+fn steps_lead_to(
+    alloc: Global,
+    rules: &Rules,
+    word: Vec<u16>,
+    tails: [u8; 5],
+    at: &Elem,
+) -> Result<bool, NoMemory> {
+    let mut tails = tails;
+    let normal = normal_word(alloc, rules, word, &mut tails)?;
+    let letters = letters(alloc, at.exponents())?;
+    Ok(normal.as_slice() == letters.as_slice() && tails == entries(at.tail()))
+}
+
 /// Pushes random generators by the collector and by the plain rule's definition, and in a consistent presentation by
 /// directed steps too.
 fn compare(rt: &impl Abort, alloc: Global, draws: &mut Draws, case: &Case) -> Result<(), Fail> {
@@ -154,16 +173,12 @@ fn compare_in(
         let generator = draws.below(case.shape.rank) + 1;
         let mut word = letters(alloc, at.exponents())?;
         word.push(generator)?;
-        let mut tails = listed.tails;
+        let tails = listed.tails;
         push_checked(rt, &mut plain, pcp, &mut at, generator);
         push(&case.rules, &mut listed, generator, 8);
-        assert!(rt; listed.exponents.as_slice().starts_with(at.exponents()));
-        assert_eq!(rt; entries(at.tail()), listed.tails);
+        assert!(rt; is_listed(&at, &listed));
         if case.is_consistent {
-            let normal = normal_word(alloc, &case.rules, word, &mut tails)?;
-            let letters = letters(alloc, at.exponents())?;
-            assert_eq!(rt; normal.as_slice(), letters.as_slice());
-            assert_eq!(rt; tails, listed.tails);
+            assert!(rt; steps_lead_to(alloc, &case.rules, word, tails, &at)?);
         }
     }
     Ok(())

@@ -4,7 +4,7 @@ use crate::Plain;
 use fp_rows::Row;
 use pc_presentation::overlap::{left_way, right_way};
 use pc_presentation::{Collect, Elem, Overlap, Pcp, PcpBuilder, Relation, Syllable};
-use pq_base::Prime;
+use pq_base::{NoMemory, Prime};
 use std::alloc::Global;
 use std::process::Abort;
 use std::test::Fail;
@@ -86,10 +86,25 @@ fn difference(left: [u8; 5], right: [u8; 5]) -> [u8; 5] {
     difference
 }
 
+/// What both ways of an overlap of the presentation reach.
+fn both_ways(
+    rt: &impl Abort,
+    alloc: Global,
+    pcp: &Pcp,
+    overlap: Overlap,
+) -> Result<(Elem, Elem), NoMemory> {
+    assert!(rt; overlap.is_of(pcp.rank()));
+    let mut plain = Plain::fresh(alloc, pcp)?;
+    let mut left = Elem::one(alloc, pcp)?;
+    let mut right = Elem::one(alloc, pcp)?;
+    left_way(&mut plain, pcp, overlap, &mut left);
+    right_way(&mut plain, pcp, overlap, &mut right);
+    Ok((left, right))
+}
+
 #[test]
 fn both_ways_of_the_overlaps_of_a_cover(rt: HostRuntime) -> Result<(), Fail> {
     let pcp = cover(rt.alloc())?;
-    let mut plain = Plain::fresh(rt.alloc(), &pcp)?;
     let none = [0; 5];
     let rows = [
         (Overlap::Triple(3, 2, 1), [1, 1, 0], [1, 1, 1, 0, 0], none),
@@ -114,20 +129,13 @@ fn both_ways_of_the_overlaps_of_a_cover(rt: HostRuntime) -> Result<(), Fail> {
         (Overlap::Own(3), [0, 0, 1], [0, 0, 1, 0, 0], none),
     ];
     for (overlap, exponents, tails, row) in rows {
-        assert!(rt; overlap.is_of(pcp.rank()));
-        let mut left = Elem::one(rt.alloc(), &pcp)?;
-        let mut right = Elem::one(rt.alloc(), &pcp)?;
-        left_way(&mut plain, &pcp, overlap, &mut left);
-        right_way(&mut plain, &pcp, overlap, &mut right);
+        let (left, right) = both_ways(&rt, rt.alloc(), &pcp, overlap)?;
         assert_eq!(rt; left.exponents(), exponents.as_slice(), "at {overlap:?}");
         assert_eq!(rt; right.exponents(), exponents.as_slice(), "at {overlap:?}");
         let left_tails = entries(left.tail());
         assert_eq!(rt; left_tails, tails, "at {overlap:?}");
-        assert_eq!(rt;
-            difference(left_tails, entries(right.tail())),
-            row,
-            "at {overlap:?}"
-        );
+        let found = difference(left_tails, entries(right.tail()));
+        assert_eq!(rt; found, row, "at {overlap:?}");
     }
     Ok(())
 }

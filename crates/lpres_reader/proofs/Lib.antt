@@ -51,3 +51,8 @@ pub mod KnownRuns
 pub mod ItemReads
 pub mod EndoLetters
 pub mod ImageArrows
+pub mod KeptWords
+pub mod Suffixes
+pub mod EndoPlaces
+pub mod OneNameMore
+pub mod PartLimits

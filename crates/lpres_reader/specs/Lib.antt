@@ -26,3 +26,5 @@ pub mod Arrows
 pub mod Values
 pub mod Meanings
 pub mod Passed
+pub mod Parts
+pub mod Along

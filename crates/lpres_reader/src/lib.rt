@@ -2,6 +2,7 @@
 //! means a presentation; any other text is refused by its first fault.
 #![tactic(auto)]
 
+mod copies;
 mod depth;
 mod exponent;
 mod fault;
@@ -12,6 +13,9 @@ mod item;
 mod known;
 pub mod laws;
 mod line;
+mod parts;
+#[cfg(test)]
+mod parts_tests;
 mod presentation;
 mod products;
 mod reading;
@@ -19,8 +23,11 @@ mod refusal;
 mod syntax;
 mod token;
 mod value;
+mod word_along;
 
 pub use fault::{Kind, TextFault, Which};
+pub use parts::PartsRefusal;
 pub use presentation::LPres;
 pub use reading::read;
 pub use refusal::ReadRefusal;
+pub use word_along::along;

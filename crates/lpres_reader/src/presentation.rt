@@ -1,7 +1,7 @@
 //! L-presentations as values.
 
-ghost use Rattle.std.specs.Prelude.{◌≡◌, ◌≤◌, length, map};
-ghost use Rattle.pq_base.specs.LPresentation.{LPresentation, IsLPresentation};
+ghost use Rattle.std.specs.Prelude.{◌≡◌, ◌≤◌, [], ◌∷◌, length, map};
+ghost use Rattle.pq_base.specs.LPresentation.{LPresentation, IsLPresentation, AreEndoNumbers, AreWords, endo_at};
 ghost use Rattle.lpres_reader.specs.Limits.{IsWithinLimits, letters_in, total_letters};
 ghost use Rattle.lpres_reader.specs.Presentations.{made_of, endo_letters, AreGenerators};
 
@@ -114,6 +114,16 @@ impl LPres {
         ensures limit { result ≤ 4194304 }
     {
         letters_in(&self.fixed) + letters_in(&self.iterated) + endo_letters(&self.endos)
+    }
+
+    /// The images of the generators under the endomorphism with this number, counted from 1.
+    pub(crate) fn endo(&self, number: u8) -> &[Word]
+        requires { AreEndoNumbers (length self.now.endos) (number ∷ []) }
+        ensures images { result.now ≡ endo_at self.now.endos number }
+        ensures words { AreWords (length self.now.names) result.now }
+        ensures count { length result.now ≡ length self.now.names }
+    {
+        self.endos[usize::from(number) - 1].as_slice()
     }
 }
 

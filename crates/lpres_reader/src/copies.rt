@@ -1,0 +1,63 @@
+//! Copies of presentations.
+
+ghost use Rattle.std.specs.Prelude.{◌≡◌, All, IfOk, map};
+ghost use Rattle.pq_base.specs.Name.{IsName};
+ghost use Rattle.pq_base.specs.LPresentation.{AreDistinct};
+
+use crate::presentation::LPres;
+use free_words::Word;
+use indexmap::IndexSet;
+use pq_base::{Name, NoMemory};
+use std::alloc::Global;
+
+impl LPres {
+    /// An equal presentation.
+    pub fn duplicate(&self) -> Result<LPres, NoMemory>
+        ensures { IfOk result (λ p. p ≡ self.now) }
+    {
+        let alloc = *self.name_set().allocator();
+        let names = names_copied(alloc, self.names())?;
+        let fixed = words_copied(alloc, self.fixed())?;
+        let iterated = words_copied(alloc, self.iterated())?;
+        let endos = endos_copied(alloc, self.endos())?;
+        Ok(LPres::of_parts(names, fixed, iterated, endos))
+    }
+}
+
+/// A set of equal names.
+fn names_copied(alloc: Global, names: &[Name]) -> Result<IndexSet<Name>, NoMemory>
+    requires { AreDistinct names.now }
+    ensures names { IfOk result (λ copies. copies.keys ≡ names.now) }
+    ensures each { IfOk result (λ copies. All IsName copies.keys) }
+{
+    let mut copies = IndexSet::new(alloc);
+    for name in names {
+        match Name::of(name.bytes()) {
+            Some(copy) => copies.insert(copy)?,
+            None => unreachable!(),
+        };
+    }
+    Ok(copies)
+}
+
+/// Equal words.
+fn words_copied(alloc: Global, words: &[Word]) -> Result<Vec<Word>, NoMemory>
+    ensures { IfOk result (λ copies. copies.items ≡ words.now) }
+{
+    let mut copies = Vec::new(alloc);
+    for word in words {
+        copies.push(word.duplicate()?)?;
+    }
+    Ok(copies)
+}
+
+/// Equal lists of images.
+fn endos_copied(alloc: Global, endos: &[Vec<Word>]) -> Result<Vec<Vec<Word>>, NoMemory>
+    ensures { IfOk result (λ copies. map (λ f. f.items) copies.items ≡ map (λ f. f.items) endos.now) }
+{
+    let mut copies = Vec::new(alloc);
+    for images in endos {
+        copies.push(words_copied(alloc, images)?)?;
+    }
+    Ok(copies)
+}

@@ -16,13 +16,14 @@ use Rattle.lpres_reader.specs.ReaderLaws.{CanonicalTextsReadBack}
 use Rattle.lpres_reader.proofs.CanonicalItems.{relator_items, canonical_items, fixed_of-canonical, iterated_of-canonical, endos_of-canonical}
 use Rattle.lpres_reader.proofs.CanonicalLines.{IsWritten, generators-written, fixed-written, iterated-written, endo-written}
 use Rattle.lpres_reader.proofs.LineBytes.{line_is_plain, plain_is_shallow, plain_is_one_line}
-use Rattle.lpres_reader.proofs.LineLemmas.{content_of-kept}
+use Rattle.lpres_reader.proofs.TextLines.{unskipped}
+use Rattle.lpres_reader.proofs.TextReads.{unskipped-keep}
 
 -- a line that is kept is the first of the content
 content_of-line : (form : List Token → Type 0) (line text : List ℕ) (content : List (List ℕ)) → IsWritten form line → content_of text ≡ content → content_of (line ++ 10 ∷ text) ≡ line ∷ content
 content_of-line form line text content written e =
     let one : All (λ b. (b == 10) ≡ false) line = plain_is_one_line line (line_is_plain written.spelled written.plain) in
-    content_of-kept (line ++ 10 ∷ text) line (lines_of text) (slice_split_at (λ b. b == 10) line 10 text one refl) written.kept
+    ap unskipped (slice_split_at (λ b. b == 10) line 10 text one refl) ∙ unskipped-keep line (lines_of text) written.kept
     ∙ ap (λ (ls : List (List ℕ)). line ∷ ls) e
 
 reads_line : (form : List Token → Type 0) (line : List ℕ) → IsWritten form line → ReadsLine form line

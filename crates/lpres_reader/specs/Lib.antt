@@ -30,3 +30,5 @@ pub mod Parts
 pub mod Along
 pub mod Runs
 pub mod CanonicalText
+pub mod Parts
+pub mod Along

@@ -30,5 +30,3 @@ pub mod Parts
 pub mod Along
 pub mod Runs
 pub mod CanonicalText
-pub mod Parts
-pub mod Along

@@ -1,8 +1,8 @@
 -- The size of a written exponent that is told is found digit by digit, and never passes the greatest that is told.
-use Rattle.std.proofs.Common.{◌≡◌, ◌≤◌, ◌<◌, ◌+◌, ◌*◌, ℕ, suc, min, drop, get_or, length, List, [], ◌∷◌, refl, ap, sym, subst, ◌∙◌, add-one, drop-cons, arith}
+use Rattle.std.proofs.Common.{◌≡◌, ◌≤◌, ◌<◌, ◌+◌, ◌*◌, ℕ, suc, drop, get_or, length, List, [], ◌∷◌, ap, sym, ◌∙◌, drop-cons, arith}
 use Rattle.std.proofs.lemmas.List.{drop_all}
 use Rattle.std.specs.Char.{digit_value}
-use Rattle.std.specs.Str.Parse.{digits_value, digits_value_after}
+use Rattle.std.specs.Str.Parse.{digits_value_after}
 use Rattle.lpres_reader.specs.Values.{told}
 
 -- what is told of a number goes on as the number does

@@ -1,6 +1,6 @@
 -- A line has the form of an item exactly where its tokens go through, one after the other, to a whole form.
-use Rattle.std.proofs.Common.{◌≡◌, ℕ, Bool, true, false, List, [], ◌∷◌, ◌++◌, Option, Some, None, is_some, option_map, option_and_then, refl, ap, ◌∙◌, sym, subst}
-use Rattle.lpres_reader.specs.Tokens.{Token, name, number, symbol, ReadsTokens}
+use Rattle.std.proofs.Common.{◌≡◌, ℕ, true, false, List, [], ◌∷◌, Option, Some, None, is_some, option_map, option_and_then, refl, ap, ◌∙◌, sym, subst}
+use Rattle.lpres_reader.specs.Tokens.{Token, name, number, symbol}
 use Rattle.lpres_reader.specs.Trees.{ItemTree, relators, arrows, item_tokens}
 use Rattle.lpres_reader.specs.Parser.{State, step, run, line_end, begin, parse_item}
 use Rattle.lpres_reader.specs.Front.{Front, token_first, no_token, front_of, IsNamed}
@@ -11,7 +11,7 @@ use Rattle.lpres_reader.specs.declared.syntax.Form.{Form}
 use Rattle.lpres_reader.proofs.FrontLemmas.{Follows, follows}
 use Rattle.lpres_reader.proofs.LineTokens.{ends_here, end_only, no_tokens}
 use Rattle.lpres_reader.proofs.ParserReads.{parse_item-tokens}
-use Rattle.lpres_reader.proofs.LineRuns.{LineStands, line_begins, line_goes, RestRuns, line_tree, line_formed}
+use Rattle.lpres_reader.proofs.LineRuns.{LineStands, line_begins, line_goes, line_tree, line_formed}
 use Rattle.lpres_reader.proofs.FormSteps.{form_goes, form_begins, form_ends, is_whole_form}
 
 -- the form of the tokens before the rest

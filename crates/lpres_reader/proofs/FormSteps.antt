@@ -1,12 +1,12 @@
 -- The form of a line goes along with what is parsed: a token may come next exactly where it may in the form.
-use Rattle.std.proofs.Common.{◌≡◌, ℕ, Bool, true, false, ◌&&◌, is_some, cond, List, [], ◌∷◌, Option, Some, None, option_map, option_and_then, refl, ap, ◌∙◌, sym}
+use Rattle.std.proofs.Common.{◌≡◌, ℕ, Bool, true, false, ◌&&◌, is_some, cond, List, [], Some, None, option_map, refl, ap, sym}
 use Rattle.std.proofs.lemmas.Bool.{cond_both}
 use Rattle.std.specs.Prelude.{codes, bytes_eq}
 use Rattle.lpres_reader.specs.declared.token.Symbol.{Symbol}
 use Rattle.lpres_reader.specs.declared.token.Symbol.TheVariants.{Arrow, Star, Caret, Minus, Equals, Comma, OpenRound, CloseRound, OpenSquare, CloseSquare}
 use Rattle.lpres_reader.specs.Tokens.{Token, name, number, symbol}
-use Rattle.lpres_reader.specs.Trees.{WordTree, FactorTree, UnitTree, one, fixed_sort, iterated_sort}
-use Rattle.lpres_reader.specs.Parser.{Place, as_factor, as_exponent, Entered, none, first, several, Outer, in_relators, in_arrows, Around, outside, in_round, in_square, State, at_name, at_arrow, at_factor, at_exponent, at_digits, behind, joined, behind_unit, entered, unit_step, square_end, word_step, step, line_end, begin}
+use Rattle.lpres_reader.specs.Trees.{WordTree, UnitTree, one, fixed_sort, iterated_sort}
+use Rattle.lpres_reader.specs.Parser.{Place, as_factor, as_exponent, none, first, several, in_relators, in_arrows, Around, outside, in_round, in_square, State, at_name, at_arrow, at_factor, at_exponent, at_digits, behind, joined, behind_unit, unit_step, word_step, step, line_end, begin}
 use Rattle.lpres_reader.specs.declared.syntax.Form.{Form}
 use Rattle.lpres_reader.specs.declared.syntax.Stage.TheVariants as at
 use Rattle.lpres_reader.specs.declared.syntax.Outer.TheVariants.{Relators, Arrows}

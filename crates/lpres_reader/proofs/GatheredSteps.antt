@@ -1,12 +1,10 @@
 -- One relator more, or one arrow more: what is gathered, and the trials.
-use Rattle.std.proofs.Common.{◌≡◌, ◌≤◌, ◌<◌, ◌+◌, ℕ, suc, Bool, true, false, cond, leb, ℤ, List, [], ◌∷◌, ◌++◌, length, map, append_assoc, Option, Some, None, Result, Ok, Err, refl, ap, ap₂, sym, subst, ◌∙◌, arith}
+use Rattle.std.proofs.Common.{◌≡◌, ◌≤◌, ◌<◌, ◌+◌, ℕ, suc, leb, ℤ, List, [], ◌∷◌, ◌++◌, length, map, append_assoc, Option, Some, None, Ok, refl, ap, ap₂, sym, subst, ◌∙◌, arith}
 use Rattle.std.specs.Prelude.{sum_by}
-use Rattle.std.proofs.lemmas.List.{append-nil, map-append, length-append, length-map}
+use Rattle.std.proofs.lemmas.List.{append-nil, map-append, length-append}
 use Rattle.std.proofs.lemmas.List.Sums.{sum_by-cons, sum_by-append}
 use Rattle.std.proofs.lemmas.Bool.{leb-true, leb-false}
-use Rattle.pq_base.specs.SignedWord.{inv}
-use Rattle.pq_base.specs.LPresentation.{LPresentation, AreDistinct}
-use Rattle.lpres_reader.specs.declared.fault.Stop.{Stop}
+use Rattle.pq_base.specs.LPresentation.{LPresentation}
 use Rattle.lpres_reader.specs.declared.fault.Which.TheVariants as which
 use Rattle.lpres_reader.specs.declared.gathered.Arrow.{Arrow}
 use Rattle.lpres_reader.specs.Stops.{which_of}
@@ -17,7 +15,7 @@ use Rattle.lpres_reader.specs.Trials.{Trial, tried, Endos, Total, reported, most
 use Rattle.lpres_reader.specs.Parser.{relator_of}
 use Rattle.lpres_reader.specs.Values as v
 use Rattle.lpres_reader.specs.Meanings.{left_value, arrow_value, sort_which, relators_gathered, arrows_gathered}
-use Rattle.lpres_reader.proofs.Tried.{Tried, kept, passed, passes_now, one_more, tried_same, tried_then, tried_map, tried_fits, tried_letters, tried_if}
+use Rattle.lpres_reader.proofs.Tried.{Tried, passed, passes_now, one_more, tried_same, tried_then, tried_map, tried_fits, tried_letters, tried_if}
 
 letters_push : {X : Type 0} (f : X → ℕ) (xs : List X) (x : X) → sum_by f (xs ++ x ∷ []) ≡ sum_by f xs + f x
 letters_push f xs x = sum_by-append f xs (x ∷ []) ∙ omega (arith, sum_by-cons f x [])

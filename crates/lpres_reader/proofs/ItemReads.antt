@@ -1,5 +1,5 @@
 -- A line behind a presentation is read as what its tree gives, or it has the fault that is told.
-use Rattle.std.proofs.Common.{◌≡◌, ◌≤◌, ◌<◌, ◌+◌, ℕ, suc, Bool, true, false, cond, leb, List, [], ◌∷◌, ◌++◌, length, Option, Some, None, option_and_then, MatchResult, Result, Ok, Err, refl, ap, ap₂, sym, subst, ◌∙◌, arith}
+use Rattle.std.proofs.Common.{◌≡◌, ◌≤◌, ◌<◌, ◌+◌, ℕ, suc, Bool, true, false, cond, leb, List, [], ◌∷◌, length, Option, Some, None, option_and_then, MatchResult, Result, Ok, Err, refl, ap, ap₂, sym, subst, ◌∙◌, arith}
 use Rattle.std.proofs.lemmas.Bool.{leb-true, leb-false}
 use Rattle.std.specs.Prelude.{codes, bytes_eq}
 use Rattle.pq_base.specs.LPresentation.{LPresentation, AreDistinct}
@@ -10,17 +10,17 @@ use Rattle.lpres_reader.specs.declared.fault.Kind as declared
 use Rattle.lpres_reader.specs.declared.fault.Which.TheVariants as which
 use Rattle.lpres_reader.specs.declared.value.Value.{Value}
 use Rattle.lpres_reader.specs.Gatherings.{Gathering}
-use Rattle.lpres_reader.specs.Stops.{Refuses, which_of, kind_of}
+use Rattle.lpres_reader.specs.Stops.{Refuses, kind_of}
 use Rattle.lpres_reader.specs.Limits.{total_letters}
 use Rattle.lpres_reader.specs.Lines.{IsShallow}
 use Rattle.lpres_reader.specs.Tokens.{Token, name, ReadsTokens}
 use Rattle.lpres_reader.specs.Front.{Front, token_first, front_of, IsNamed}
 use Rattle.lpres_reader.specs.Trees.{ItemTree, relators, arrows, Sort, fixed_sort, iterated_sort, body_tokens, item_tokens, AreKnown}
-use Rattle.lpres_reader.specs.Trials.{Which, Trial, tried, Endos, AreKept, relators_of, item_trials}
+use Rattle.lpres_reader.specs.Trials.{Which, Trial, AreKept, relators_of, item_trials}
 use Rattle.lpres_reader.specs.Parser.{State, at_name, at_factor, outside, in_relators, begin, run, parse_item}
 use Rattle.lpres_reader.specs.Faults as fault
 use Rattle.lpres_reader.specs.Faults.{Kind, Unless, fails, holds, UnlessPassed, passed, ItemForm, LineFault}
-use Rattle.lpres_reader.specs.Known.{Checked, ChecksNames}
+use Rattle.lpres_reader.specs.Known.{ChecksNames}
 use Rattle.lpres_reader.specs.Values.{Given, RunsTo, value_run, nothing_gathered, at_relators, at_arrows, no_form}
 use Rattle.lpres_reader.specs.Meanings.{sort_which, relators_gathered, arrows_gathered, value_of, gathered_of}
 use Rattle.lpres_reader.specs.Passed.{PassedAs, GivesTree, first_value, first_arrow, ItemRead}

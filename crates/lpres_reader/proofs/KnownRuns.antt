@@ -1,5 +1,5 @@
 -- The names of a line are known exactly where each is, one after the other.
-use Rattle.std.proofs.Common.{◌≡◌, ◌<◌, ℕ, Bool, true, false, List, [], ◌∷◌, length, get_or, Option, Some, None, is_some, refl, ap, sym, subst, ◌∙◌}
+use Rattle.std.proofs.Common.{◌≡◌, ◌<◌, ℕ, true, false, List, [], ◌∷◌, length, get_or, Option, Some, None, is_some, refl, sym, subst}
 use Rattle.lpres_reader.specs.Tokens.{Token, name, number, symbol, ReadsTokens}
 use Rattle.lpres_reader.specs.Front.{Front, line_end, no_token, token_first, front_of}
 use Rattle.lpres_reader.specs.Trees.{place_of, AreKnown}

@@ -4,9 +4,9 @@ use Rattle.std.proofs.lemmas.List.Elements.{All-from_recursion, recursion_from_A
 use Rattle.pq_base.specs.LPresentation.{LPresentation, AreDistinct}
 use Rattle.lpres_reader.specs.Lines.{IsShallow}
 use Rattle.lpres_reader.specs.Tokens.{Token, ReadsTokens}
-use Rattle.lpres_reader.specs.Items.{ReadsItem, Item, fixed, iterated, endo}
+use Rattle.lpres_reader.specs.Items.{Item, fixed, iterated, endo}
 use Rattle.lpres_reader.specs.Limits.{IsWithinLimits}
-use Rattle.lpres_reader.specs.Reads.{ReadsLine, IsGenerators}
+use Rattle.lpres_reader.specs.Reads.{IsGenerators}
 use Rattle.lpres_reader.specs.Trees.{ItemTree, relators, arrows, arrow_meaning, body_tokens, item_tokens, AreKnown, GivesAll, item_meaning}
 use Rattle.lpres_reader.specs.Trials.{AreKept, item_trials, names_trials, added}
 use Rattle.lpres_reader.specs.Verdicts.{bare}

@@ -1,13 +1,11 @@
 -- Reading a line token by token: where the parser stands behind some of its tokens, and what is left of it, decide how the
 -- line is parsed.
-use Rattle.std.proofs.Common.{◌≡◌, ℕ, List, [], ◌∷◌, ◌++◌, Option, Some, None, option_map, option_and_then, refl, ap, ◌∙◌, sym, subst}
-use Rattle.lpres_reader.specs.Tokens.{Token, name, number, symbol, ReadsTokens}
+use Rattle.std.proofs.Common.{◌≡◌, ℕ, List, [], ◌∷◌, ◌++◌, Option, Some, option_and_then, refl, ap, ◌∙◌, sym, subst}
+use Rattle.lpres_reader.specs.Tokens.{Token, name, ReadsTokens}
 use Rattle.lpres_reader.specs.Trees.{ItemTree, item_tokens}
-use Rattle.lpres_reader.specs.Parser.{State, step, run, line_end, begin, parse_item}
-use Rattle.lpres_reader.specs.Front.{Front, token_first, front_of}
-use Rattle.lpres_reader.specs.Faults.{ItemForm}
-use Rattle.lpres_reader.proofs.FrontLemmas.{follows}
-use Rattle.lpres_reader.proofs.Leads.{Leads, leads_on, leads_nowhere}
+use Rattle.lpres_reader.specs.Parser.{State, step, run, begin, parse_item}
+use Rattle.lpres_reader.specs.Front.{token_first, front_of}
+use Rattle.lpres_reader.proofs.Leads.{Leads, leads_on}
 use Rattle.lpres_reader.proofs.LineTokens.{token_leads}
 use Rattle.lpres_reader.proofs.ParserReads.{parse_item-tokens}
 use Rattle.lpres_reader.proofs.ParserKeeps.{IsTreeOf, parse_item_keeps}

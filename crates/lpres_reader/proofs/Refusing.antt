@@ -1,5 +1,5 @@
 -- A stop is handed on with what is known of it.
-use Rattle.std.proofs.Common.{◌≡◌, Option, Some, None, Result, Ok, Err, refl}
+use Rattle.std.proofs.Common.{◌≡◌, Option, None, Err}
 use Rattle.lpres_reader.specs.declared.fault.Stop.{Stop}
 use Rattle.lpres_reader.specs.declared.fault.Stop.TheVariants.{Fault, NoMemory}
 use Rattle.lpres_reader.specs.declared.fault.Kind.{Kind}

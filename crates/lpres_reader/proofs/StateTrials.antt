@@ -1,5 +1,5 @@
 -- The trials of the tokens behind which a state of the parser stands, which only become more with further tokens.
-use Rattle.std.proofs.Common.{◌≡◌, ℕ, suc, ◌+◌, List, [], ◌∷◌, ◌++◌, length, map, append_assoc, Option, Some, None, refl, ap, sym, subst, ◌∙◌}
+use Rattle.std.proofs.Common.{◌≡◌, ℕ, suc, List, [], ◌∷◌, ◌++◌, length, append_assoc, Option, Some, None, refl, ap, sym, subst, ◌∙◌}
 use Rattle.std.proofs.lemmas.List.{append-nil}
 use Rattle.std.specs.Prelude.{codes, bytes_eq, cond, Bool, true, false}
 use Rattle.pq_base.specs.LPresentation.{LPresentation}
@@ -7,10 +7,10 @@ use Rattle.lpres_reader.specs.declared.token.Symbol.{Symbol}
 use Rattle.lpres_reader.specs.declared.token.Symbol.TheVariants.{Arrow, Star, Caret, Minus, Equals, Comma, OpenRound, CloseRound, OpenSquare, CloseSquare}
 use Rattle.lpres_reader.specs.Tokens.{Token, name, number, symbol}
 use Rattle.lpres_reader.specs.Limits.{total_letters}
-use Rattle.lpres_reader.specs.Trees.{WordTree, alone, times, FactorTree, one, unit, to_power, conjugated, UnitTree, named, round, square, EntriesTree, two, and_one, RelatorTree, word, equation, ArrowTree, Sort, ItemTree, Exponent, plus, minus, exponent_size, relators, arrows, word_meaning, factor_meaning, entries_meaning, relator_meaning}
+use Rattle.lpres_reader.specs.Trees.{WordTree, times, FactorTree, one, to_power, conjugated, UnitTree, named, round, square, two, and_one, RelatorTree, word, equation, ArrowTree, Sort, Exponent, plus, minus, exponent_size, word_meaning, factor_meaning, entries_meaning, relator_meaning}
 use Rattle.lpres_reader.specs.Trials as trials
 use Rattle.lpres_reader.specs.Trials.{Trial, tried, Endos, letters_tried, word_trials, factor_trials, unit_trials, entries_trials, relators_trials, arrows_trials, relators_of, item_trials}
-use Rattle.lpres_reader.specs.Parser.{Place, as_factor, as_exponent, Entered, none, first, several, Outer, in_relators, in_arrows, Around, outside, in_round, in_square, State, at_name, at_arrow, at_factor, at_exponent, at_digits, behind, joined, behind_unit, entered, relator_of, unit_step, square_end, word_step, step, outer_end, line_end}
+use Rattle.lpres_reader.specs.Parser.{Place, as_factor, as_exponent, Entered, none, first, several, Outer, in_relators, in_arrows, Around, outside, in_round, in_square, State, at_name, at_arrow, at_factor, at_exponent, at_digits, behind, joined, behind_unit, relator_of, unit_step, word_step, step}
 use Rattle.lpres_reader.proofs.FormSteps.{word_ends, word_ends_number}
 use Rattle.lpres_reader.proofs.GatheredSteps.{start_trials, end_trials, arrow_end_trials, relators_trials-push, arrows_trials-push}
 

@@ -1,8 +1,8 @@
 -- A machine that reads a line token by token: where it stands behind the tokens so far.
-use Rattle.std.proofs.Common.{◌≡◌, ℕ, List, [], ◌∷◌, ◌++◌, Option, Some, None, option_map, option_and_then, refl, ap, ◌∙◌, sym, subst}
+use Rattle.std.proofs.Common.{◌≡◌, List, [], ◌∷◌, ◌++◌, Option, Some, None, option_and_then, refl, ap, ◌∙◌}
 use Rattle.lpres_reader.specs.Tokens.{Token}
 use Rattle.lpres_reader.specs.Trees.{ItemTree}
-use Rattle.lpres_reader.specs.Parser.{State, step, run, line_end}
+use Rattle.lpres_reader.specs.Parser.{State, step, run}
 
 -- behind all of the tokens
 abbrev pub steps : State → List Token → Option State

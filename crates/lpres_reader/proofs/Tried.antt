@@ -1,10 +1,9 @@
 -- Trials of which all are kept give a value, and others are told by the first that is passed.
-use Rattle.std.proofs.Common.{◌≡◌, ◌≤◌, ◌<◌, ◌+◌, ℕ, suc, min, ltb, leb, Bool, true, false, cond, ℤ, List, [], ◌∷◌, ◌++◌, length, append_assoc, Result, Ok, Err, refl, ap, sym, subst, ◌∙◌, inl, inr, ◌⊎◌, arith}
-use Rattle.std.specs.List.{AllByRecursion}
-use Rattle.std.proofs.lemmas.Bool.{cases_Bool, ltb-true, ltb-false, leb-true, leb-false, cond-true, cond-false}
+use Rattle.std.proofs.Common.{◌≡◌, ◌≤◌, ◌<◌, ◌+◌, ℕ, ltb, leb, Bool, true, false, cond, ℤ, List, [], ◌∷◌, ◌++◌, length, append_assoc, Result, Ok, Err, refl, ap, subst, ◌∙◌}
+use Rattle.std.proofs.lemmas.Bool.{ltb-true, ltb-false, leb-true, leb-false}
 use Rattle.pq_base.specs.SignedWord.{pow}
 use Rattle.lpres_reader.specs.declared.fault.Stop.{Stop}
-use Rattle.lpres_reader.specs.declared.fault.Stop.TheVariants.{Fault, NoMemory}
+use Rattle.lpres_reader.specs.declared.fault.Stop.TheVariants.{Fault}
 use Rattle.lpres_reader.specs.declared.fault.Kind.TheVariants.{Limit}
 use Rattle.lpres_reader.specs.declared.fault.Which as declared
 use Rattle.lpres_reader.specs.declared.fault.Which.TheVariants as which
@@ -12,10 +11,9 @@ use Rattle.lpres_reader.specs.Stops.{which_of}
 use Rattle.lpres_reader.specs.Words.{letter_limit, exponent_limit}
 use Rattle.lpres_reader.specs.Trees.{exponent_size, exponent_value}
 use Rattle.lpres_reader.specs.Trees as trees
-use Rattle.lpres_reader.specs.Trials.{Which, Exponent, Letters, Total, most, Trial, tried, Keeps, AreKept, IsFirstPassed, reported, letters_tried}
+use Rattle.lpres_reader.specs.Trials.{Exponent, Letters, Total, most, Trial, tried, AreKept, reported, letters_tried}
 use Rattle.lpres_reader.specs.Passed.{PassedAs}
 use Rattle.lpres_reader.specs.Values.{followed, fits, raised, more_letters}
-use Rattle.lpres_reader.proofs.TreeWords.{kept_parts}
 use Rattle.lpres_reader.proofs.TreeWords.{kept_append}
 
 pub data Tried {X : Type 0} (ts : List Trial) (x : X) : Result X Stop → Type 0 where

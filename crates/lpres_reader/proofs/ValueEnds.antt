@@ -1,20 +1,17 @@
 -- What the tokens of a line give is what its tree gives, or the first trial of the line that passes its limit is told.
-use Rattle.std.proofs.Common.{◌≡◌, ℕ, suc, ◌+◌, ℤ, List, [], ◌∷◌, ◌++◌, length, map, append_assoc, Option, Some, None, option_and_then, Result, Ok, Err, refl, ap, sym, subst, ◌∙◌}
-use Rattle.std.proofs.lemmas.List.{append-nil}
+use Rattle.std.proofs.Common.{◌≡◌, ℤ, List, [], ◌∷◌, ◌++◌, append_assoc, Option, Some, None, option_and_then, Result, ap, sym, subst, ◌∙◌}
 use Rattle.pq_base.specs.LPresentation.{LPresentation, AreDistinct}
 use Rattle.lpres_reader.specs.declared.fault.Stop.{Stop}
 use Rattle.lpres_reader.specs.declared.value.Value.{Value}
-use Rattle.lpres_reader.specs.Gatherings.{Gathering}
 use Rattle.lpres_reader.specs.Tokens.{Token}
-use Rattle.lpres_reader.specs.Limits.{total_letters}
-use Rattle.lpres_reader.specs.Trees.{WordTree, FactorTree, ArrowTree, ItemTree, relators, arrows, word_meaning, factor_meaning}
-use Rattle.lpres_reader.specs.Trials.{Trial, AreKept, word_trials, relators_trials, arrows_trials, relators_of, item_trials}
-use Rattle.lpres_reader.specs.Parser.{Outer, in_relators, in_arrows, Around, outside, in_round, in_square, State, at_name, at_arrow, at_factor, at_exponent, at_digits, behind, joined, relator_of, step, outer_end, line_end, run}
+use Rattle.lpres_reader.specs.Trees.{WordTree, ItemTree, word_meaning}
+use Rattle.lpres_reader.specs.Trials.{Trial, AreKept, word_trials, item_trials}
+use Rattle.lpres_reader.specs.Parser.{Outer, in_relators, in_arrows, outside, in_round, in_square, State, at_name, at_arrow, at_factor, at_exponent, at_digits, behind, joined, step, outer_end, line_end, run}
 use Rattle.lpres_reader.specs.Values as v
-use Rattle.lpres_reader.specs.Meanings.{start_value, relators_gathered, arrows_gathered, outer_value, outer_gathered, value_of, gathered_of}
+use Rattle.lpres_reader.specs.Meanings.{outer_value, outer_gathered, value_of, gathered_of}
 use Rattle.lpres_reader.proofs.GatheredSteps.{relator_gathers, arrow_gathers}
-use Rattle.lpres_reader.proofs.StateTrials.{endo_tried, outer_trials, around_trials, state_trials, Grows, relator_more, arrow_more, joined_more, step_grows}
-use Rattle.lpres_reader.proofs.Tried.{Tried, kept, passed, passed_further, tried_same, tried_then}
+use Rattle.lpres_reader.proofs.StateTrials.{outer_trials, state_trials, Grows, relator_more, arrow_more, joined_more, step_grows}
+use Rattle.lpres_reader.proofs.Tried.{Tried, tried_same, tried_then}
 use Rattle.lpres_reader.proofs.ValueSteps.{Goes, joined_goes, value_goes}
 
 module _ (M : LPresentation) (distinct : AreDistinct M.names) where

@@ -1,9 +1,8 @@
 -- Reading a line token by token gives what its tokens give.
-use Rattle.std.proofs.Common.{◌≡◌, ℕ, List, [], ◌∷◌, Result, Ok, Err, refl, ap, sym, subst, ◌∙◌}
+use Rattle.std.proofs.Common.{◌≡◌, ℕ, List, ◌∷◌, Result, Ok, Err, refl, ap, subst, ◌∙◌}
 use Rattle.lpres_reader.specs.declared.fault.Stop.{Stop}
 use Rattle.lpres_reader.specs.declared.fault.Stop.TheVariants.{Fault, NoMemory}
 use Rattle.lpres_reader.specs.declared.value.Value.{Value}
-use Rattle.lpres_reader.specs.Gatherings.{Gathering}
 use Rattle.lpres_reader.specs.Tokens.{Token, ReadsTokens}
 use Rattle.lpres_reader.specs.Front.{Front, line_end, no_token, token_first, front_of}
 use Rattle.lpres_reader.specs.Values.{Given, followed, value_step, value_end, value_run}

@@ -1,34 +1,31 @@
 -- What the reader takes a line to mean goes along with what is parsed: with each token that may come next it is the value
 -- at the parser's next state, or the first trial of the line so far that passes its limit is told.
-use Rattle.std.proofs.Common.{◌≡◌, ◌≤◌, ◌+◌, ℕ, suc, Bool, true, false, cond, leb, ℤ, List, [], ◌∷◌, ◌++◌, length, map, append_assoc, Option, Some, None, Result, Ok, Err, refl, ap, sym, subst, ◌∙◌, arith}
+use Rattle.std.proofs.Common.{◌≡◌, ◌≤◌, ℕ, Bool, true, false, cond, leb, ℤ, List, [], ◌∷◌, ◌++◌, length, append_assoc, Option, Some, None, Result, Ok, Err, refl, ap, sym, subst, ◌∙◌, arith}
 use Rattle.std.proofs.lemmas.List.{append-nil}
-use Rattle.std.proofs.lemmas.Bool.{cond_both, leb-false}
+use Rattle.std.proofs.lemmas.Bool.{leb-false}
 use Rattle.std.specs.Prelude.{codes, bytes_eq}
-use Rattle.pq_base.specs.SignedWord.{inv, comm, conj, pow}
+use Rattle.pq_base.specs.SignedWord.{comm}
 use Rattle.pq_base.specs.LPresentation.{LPresentation, AreDistinct}
 use Rattle.lpres_reader.specs.declared.fault.Stop.{Stop}
-use Rattle.lpres_reader.specs.declared.fault.Which.TheVariants as which
 use Rattle.lpres_reader.specs.declared.token.Symbol.{Symbol}
 use Rattle.lpres_reader.specs.declared.token.Symbol.TheVariants.{Arrow, Star, Caret, Minus, Equals, Comma, OpenRound, CloseRound, OpenSquare, CloseSquare}
 use Rattle.lpres_reader.specs.declared.value.Bracket.TheVariants.{Square}
-use Rattle.lpres_reader.specs.declared.value.Stage.{Stage}
 use Rattle.lpres_reader.specs.declared.value.Stage.TheVariants as stage
 use Rattle.lpres_reader.specs.declared.value.Value.{Value}
-use Rattle.lpres_reader.specs.Gatherings.{Gathering}
 use Rattle.lpres_reader.specs.Tokens.{Token, name, number, symbol}
-use Rattle.lpres_reader.specs.Limits.{letters_in, total_letters}
+use Rattle.lpres_reader.specs.Limits.{total_letters}
 use Rattle.lpres_reader.specs.Words.{letter_limit}
-use Rattle.lpres_reader.specs.Trees.{WordTree, alone, times, FactorTree, one, unit, to_power, conjugated, UnitTree, named, round, square, EntriesTree, two, and_one, RelatorTree, word, equation, ArrowTree, Sort, fixed_sort, iterated_sort, ItemTree, Exponent, plus, minus, exponent_size, word_meaning, factor_meaning, unit_meaning, entries_meaning, relator_meaning, place_of, letter_at}
+use Rattle.lpres_reader.specs.Trees.{WordTree, alone, times, FactorTree, one, to_power, conjugated, UnitTree, named, round, square, EntriesTree, two, and_one, RelatorTree, ArrowTree, Sort, Exponent, plus, minus, exponent_size, word_meaning, factor_meaning, unit_meaning, entries_meaning}
 use Rattle.lpres_reader.specs.Trials as trials
 use Rattle.lpres_reader.specs.Trials.{Trial, tried, Endos, Total, AreKept, letters_tried, word_trials, factor_trials, unit_trials, entries_trials, relator_trials, relators_trials, arrows_trials, relators_of, sort_limit, item_trials}
-use Rattle.lpres_reader.specs.Parser.{Place, as_factor, as_exponent, Entered, none, first, several, Outer, in_relators, in_arrows, Around, outside, in_round, in_square, State, at_name, at_arrow, at_factor, at_exponent, at_digits, behind, joined, behind_unit, entered, relator_of, unit_step, square_end, word_step, step, outer_end, line_end}
+use Rattle.lpres_reader.specs.Parser.{Place, as_factor, as_exponent, Entered, none, first, several, in_relators, in_arrows, Around, outside, in_round, in_square, State, at_name, at_arrow, at_factor, at_exponent, at_digits, behind, joined, behind_unit, entered, relator_of, unit_step, word_step, step}
 use Rattle.lpres_reader.specs.Values as v
-use Rattle.lpres_reader.specs.Meanings.{start_value, left_value, place_value, entered_value, arrow_value, sort_which, relators_gathered, arrows_gathered, outer_value, outer_gathered, stack_of, outermost, around_of, value_of}
-use Rattle.lpres_reader.proofs.TreeWords.{kept_append, kept_parts, word_short}
+use Rattle.lpres_reader.specs.Meanings.{start_value, left_value, place_value, entered_value, relators_gathered, arrows_gathered, around_of, value_of}
+use Rattle.lpres_reader.proofs.TreeWords.{kept_parts, word_short}
 use Rattle.lpres_reader.proofs.FormSteps.{word_ends, word_ends_number}
 use Rattle.lpres_reader.proofs.GatheredSteps.{start_trials, relator_gathers, arrow_gathers}
 use Rattle.lpres_reader.proofs.StateTrials.{place_trials, entered_trials, endo_tried, outer_trials, around_trials, state_trials, unit_more, unit_more_is, Grows, word_grows}
-use Rattle.lpres_reader.proofs.Tried.{Tried, kept, passed, tried_same, tried_then, tried_map, tried_fits, tried_letters, tried_raised, tried_if}
+use Rattle.lpres_reader.proofs.Tried.{Tried, kept, tried_same, tried_then, tried_map, tried_fits, tried_raised, tried_if}
 
 -- an entry with those before it
 abbrev pub entry_value : List (List ℕ) → Entered → WordTree → List ℤ

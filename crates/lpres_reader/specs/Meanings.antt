@@ -14,7 +14,7 @@ use Rattle.lpres_reader.specs.declared.value.Around.{Around}
 use Rattle.lpres_reader.specs.declared.value.Value.{Value}
 use Rattle.lpres_reader.specs.Gatherings.{Gathering}
 use Rattle.lpres_reader.specs.Limits.{letters_in, total_letters}
-use Rattle.lpres_reader.specs.Trees.{WordTree, FactorTree, RelatorTree, ArrowTree, ItemTree, relators, arrows, Sort, fixed_sort, iterated_sort, place_of, known_place, word_meaning, factor_meaning, entries_meaning, relator_meaning}
+use Rattle.lpres_reader.specs.Trees.{WordTree, RelatorTree, ArrowTree, ItemTree, relators, arrows, Sort, fixed_sort, iterated_sort, place_of, known_place, word_meaning, factor_meaning, entries_meaning, relator_meaning}
 use Rattle.lpres_reader.specs.Trials.{relators_of}
 use Rattle.lpres_reader.specs.Parser as parser
 use Rattle.lpres_reader.specs.Values.{value, around, place}

@@ -1,5 +1,4 @@
 -- Why a line is not read, and what a call answers that reads a part of a line.
-use Rattle.std.specs.Prelude.{◌≡◌, Result, Ok, Err}
 use Rattle.free_words.specs.declared.refusal.WordRefusal.{WordRefusal}
 use Rattle.free_words.specs.declared.refusal.WordRefusal.TheVariants as word
 use Rattle.lpres_reader.specs.declared.fault.Stop.{Stop}

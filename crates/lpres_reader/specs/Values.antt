@@ -7,7 +7,6 @@ use Rattle.lpres_reader.specs.declared.fault.Stop.TheVariants.{Fault, NoMemory}
 use Rattle.lpres_reader.specs.declared.fault.Kind.TheVariants.{Syntax, Limit}
 use Rattle.lpres_reader.specs.declared.fault.Which.{Which}
 use Rattle.lpres_reader.specs.declared.fault.Which.TheVariants.{Exponent, Letters, Total}
-use Rattle.lpres_reader.specs.declared.gathered.Arrow.{Arrow}
 use Rattle.lpres_reader.specs.declared.token.Symbol.{Symbol}
 use Rattle.lpres_reader.specs.declared.token.Symbol.TheVariants as symbols
 use Rattle.lpres_reader.specs.declared.value.Place.{Place}

@@ -1,4 +1,4 @@
-use Rattle.std.proofs.Common.{refl, arith}
+use Rattle.std.proofs.Common.{arith}
 use Rattle.lpres_reader.proofs.Depths.{depth_first, depth_next, depth_over, depth_end}
 use Rattle.lpres_reader.proofs.depth.is_shallow.Goals as goal
 

@@ -1,7 +1,4 @@
-use Rattle.std.proofs.Common.{◌≡◌, ◌≤◌, ◌+◌, ◌*◌, ℕ, drop, get_or, length, List, [], ap, sym, ◌∙◌, add-one, drop-cons, arith}
-use Rattle.std.specs.Char.{digit_value}
-use Rattle.std.specs.Str.Parse.{digits_value, digits_value_after}
-use Rattle.lpres_reader.specs.Values.{told}
+use Rattle.std.proofs.Common.{get_or, ◌∙◌, arith}
 use Rattle.lpres_reader.proofs.Exponents.{told_on, told_next, told_end}
 use Rattle.lpres_reader.proofs.exponent.size_of.Goals as goal
 

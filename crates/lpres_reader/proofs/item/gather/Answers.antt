@@ -1,9 +1,7 @@
-use Rattle.std.proofs.Common.{◌≡◌, refl, sym, ◌∙◌}
 use Rattle.std.proofs.lemmas.Result.{err_from_is_err_and}
 use Rattle.lpres_reader.specs.Front.{token_of}
 use Rattle.lpres_reader.proofs.FrontLemmas.{rest_is_shorter}
 use Rattle.lpres_reader.proofs.LineTokens.{none_left}
-use Rattle.lpres_reader.proofs.ValueEnds.{run_gives}
 use Rattle.lpres_reader.proofs.ValueRuns.{runs_first, runs_next, runs_stopped, runs_nowhere, runs_to_end, given_same, given_stop}
 use Rattle.lpres_reader.proofs.item.gather.Goals as goal
 

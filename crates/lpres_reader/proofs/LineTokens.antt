@@ -1,5 +1,5 @@
 -- The first token of a line leads to what is behind it, and a line of blanks has none.
-use Rattle.std.proofs.Common.{◌≡◌, ℕ, List, [], ◌∷◌, Option, Some, None, MatchOption, refl, sym, subst, ◌∙◌}
+use Rattle.std.proofs.Common.{◌≡◌, ℕ, List, [], ◌∷◌, Option, Some, None, MatchOption, refl, sym, subst}
 use Rattle.lpres_reader.specs.Tokens.{Token, ReadsTokens}
 use Rattle.lpres_reader.specs.Front.{Front, line_end, no_token, token_first, front_of}
 use Rattle.lpres_reader.proofs.FrontLemmas.{Follows, follows, tells}

@@ -1,12 +1,11 @@
 -- A text line by line: what the lines so far lead to, and what is left of the text.
-use Rattle.std.proofs.Common.{◌≡◌, ◌<◌, ◌≤◌, ℕ, suc, ◌+◌, Bool, true, false, List, [], ◌∷◌, ◌++◌, length, eqb, Option, Some, None, option_map, MatchOption, IfSome, refl, sym, ap, subst, ◌∙◌, append_assoc, arith}
+use Rattle.std.proofs.Common.{◌≡◌, ◌<◌, ◌≤◌, ℕ, suc, ◌+◌, false, List, [], ◌∷◌, ◌++◌, length, eqb, Option, Some, None, option_map, MatchOption, IfSome, refl, sym, ap, subst, ◌∙◌, append_assoc, arith}
 use Rattle.std.specs.Borrow.{Bor}
 use Rattle.std.proofs.lemmas.List.{append-nil, length-append}
 use Rattle.std.proofs.lemmas.List.Sums.{count_by-le-length}
 use Rattle.std.proofs.lemmas.List.Splits.{length-slice_split}
 use Rattle.pq_base.specs.LPresentation.{LPresentation}
 use Rattle.lpres_reader.specs.Lines.{is_skipped, lines_of, content_of}
-use Rattle.lpres_reader.specs.Makes.{Makes}
 use Rattle.lpres_reader.specs.Reads.{Reads}
 use Rattle.lpres_reader.specs.Faults.{Kind, LineFault, HasGenerators, FirstFault, at_line}
 use Rattle.lpres_reader.specs.NextLine.{LeadsTo, skipped, made, StopsBy}

@@ -1,4 +1,4 @@
-use Rattle.std.proofs.Common.{◌≡◌, ◌∷◌, ℕ, List, Option, true, false, option_map, refl, sym, subst, ◌∙◌}
+use Rattle.std.proofs.Common.{ℕ, List, Option, option_map, refl, sym, subst, ◌∙◌}
 use Rattle.std.specs.Borrow.{Bor}
 use Rattle.lpres_reader.proofs.TextRuns.{cut_left}
 use Rattle.lpres_reader.proofs.GeneratorSearch.{NoneSoFar, begins_here, begins_later, begins_nowhere}

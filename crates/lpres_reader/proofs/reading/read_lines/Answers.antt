@@ -1,9 +1,7 @@
-use Rattle.std.proofs.Common.{◌≡◌, ◌∷◌, ◌≤◌, ◌+◌, ℕ, List, Option, Some, option_map, length, sym, subst, ap, ◌∙◌, arith}
+use Rattle.std.proofs.Common.{◌≤◌, ℕ, List, Option, option_map, length, sym, subst, arith}
 use Rattle.std.specs.Borrow.{Bor}
-use Rattle.pq_base.specs.LPresentation.{LPresentation}
-use Rattle.lpres_reader.specs.Lines.{lines_of}
 use Rattle.lpres_reader.specs.Refusals.{IsRefusedBy}
-use Rattle.lpres_reader.proofs.TextRuns.{ReadSoFar, lines_left, nothing_read, line_read, count_small, refused_here, all_read, cut_left, cut_shorter}
+use Rattle.lpres_reader.proofs.TextRuns.{ReadSoFar, nothing_read, line_read, count_small, refused_here, all_read, cut_left}
 use Rattle.lpres_reader.proofs.reading.read_lines.Goals as goal
 
 pub loop-left-init : goal.loop-left-init

@@ -18,10 +18,6 @@ left_after-cons : (n : ℕ) (s t : List ℕ) (ts : List (List ℕ)) → left_aft
 left_after-cons zero s t ts = refl
 left_after-cons (suc n) s t ts = refl
 
-pub left_after-nil : (n : ℕ) (s : List ℕ) → left_after n s [] ≡ []
-left_after-nil zero s = refl
-left_after-nil (suc n) s = refl
-
 pub between-some : (n : ℕ) (s : List ℕ) → 0 < n → between n s ≡ s
 between-some zero s h = absurd (omega arith)
 between-some (suc n) s h = refl

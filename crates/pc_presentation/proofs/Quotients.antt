@@ -49,7 +49,7 @@ module _ (Y : RowedPresentation) (rowed : IsRowed Y) (big : 1 < Y.base.prime) (p
     pub earlier : (j : ℕ) → j < i → get_or t.exponents j 0 ≡ get_or s.exponents j 0
     pub own : get_or t.exponents i 0 ≡ (get_or s.exponents i 0 + c) % Y.base.prime
 
-  pub exponent-below : (s : State) (i : ℕ) → IsState Y Y.base.rank s → get_or s.exponents i 0 < Y.base.prime
+  exponent-below : (s : State) (i : ℕ) → IsState Y Y.base.rank s → get_or s.exponents i 0 < Y.base.prime
   exponent-below s i h = get_or-below Y.base.prime s.exponents i (omega arith) h.exponents.below
 
   pub push-copies : (c i : ℕ) (s : State) → IsState Y Y.base.rank s → i < Y.base.rank → AfterCopies s i c (push_word push s (replicate c i))

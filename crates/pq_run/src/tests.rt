@@ -51,9 +51,7 @@ fn ends_so(
         return Ok(());
     }
     let number = ended.number();
-    Err(Fail::new(
-        format!(in alloc; "{words} ends with {number}, and not with: {written}")?,
-    ))
+    Err(Fail::new(format!(in alloc; "{words} ends with {number}, and not with: {written}")?))
 }
 
 /// Fails where a command isn't done with each of these inputs, or writes something else: words, input, output.

@@ -2,7 +2,8 @@ use super::are_done;
 use std::test::Fail;
 
 /// The answer where x and y are left at the prime 2.
-const FREE_ON_TWO: &str = "prime 2\nclass 1\nrank 2\norder 2^2\ngenerator a1 weight 1 from image x\ngenerator a2 weight 1 from image y\nimage x = a1\nimage y = a2\nend\n";
+const FREE_ON_TWO: &str =
+    "prime 2\nclass 1\nrank 2\norder 2^2\ngenerator a1 weight 1 from image x\ngenerator a2 weight 1 from image y\nimage x = a1\nimage y = a2\nend\n";
 
 const TEXTS: [(&str, &str, &str); 12] = [
     (
@@ -27,7 +28,11 @@ const TEXTS: [(&str, &str, &str); 12] = [
         "prime 3\nclass 1\nrank 1\norder 3^1\ngenerator a1 weight 1 from image x\nimage x = a1\nimage y = a1^2\nend\n",
     ),
     // a dihedral group
-    ("quotient 2 1", "generators x y\nfixed x^2\nfixed y^2\n", FREE_ON_TWO),
+    (
+        "quotient 2 1",
+        "generators x y\nfixed x^2\nfixed y^2\n",
+        FREE_ON_TWO,
+    ),
     // the quaternion group
     (
         "quotient 2 1",

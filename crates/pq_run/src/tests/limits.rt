@@ -7,7 +7,8 @@ use std::test::Fail;
 const BYTES: usize = 4_194_304;
 
 /// The answer where x is left at the prime 2.
-const ONE_LEFT: &str = "prime 2\nclass 1\nrank 1\norder 2^1\ngenerator a1 weight 1 from image x\nimage x = a1\nend\n";
+const ONE_LEFT: &str =
+    "prime 2\nclass 1\nrank 1\norder 2^1\ngenerator a1 weight 1 from image x\nimage x = a1\nend\n";
 
 /// The answer where nothing is left of x at the prime 3.
 const NONE_LEFT: &str = "prime 3\nclass 0\nrank 0\norder 3^0\nimage x = 1\nend\n";
@@ -104,9 +105,17 @@ fn letters_of_a_word(rt: HostRuntime) -> Result<(), Fail> {
     let most = repeated(rt.alloc(), start, "*x^64", 1023, "\n")?;
     ends_so(rt.alloc(), "quotient 3 1", &most, Status::Done, NONE_LEFT)?;
     let one_more = repeated(rt.alloc(), start, "*x^64", 1023, "*x\n")?;
-    is_bad(rt.alloc(), &one_more, "refused: line 2: limit letters 65537\n")?;
+    is_bad(
+        rt.alloc(),
+        &one_more,
+        "refused: line 2: limit letters 65537\n",
+    )?;
     let two_more = repeated(rt.alloc(), start, "*x^64", 1023, "*x^2\n")?;
-    is_bad(rt.alloc(), &two_more, "refused: line 2: limit letters 65538\n")?;
+    is_bad(
+        rt.alloc(),
+        &two_more,
+        "refused: line 2: limit letters 65538\n",
+    )?;
     for (text, line) in [
         (
             b"generators x\nfixed x^65536*x\n".as_slice(),
@@ -145,7 +154,11 @@ fn counts_of_names_and_relators(rt: HostRuntime) -> Result<(), Fail> {
     let fixed = repeated(rt.alloc(), "generators x\n", "fixed x\n", 4097, "")?;
     is_bad(rt.alloc(), &fixed, "refused: line 4098: limit fixed 4097\n")?;
     let iterated = repeated(rt.alloc(), "generators x\niterated 1", ",1", 4096, "\n")?;
-    is_bad(rt.alloc(), &iterated, "refused: line 2: limit iterated 4097\n")?;
+    is_bad(
+        rt.alloc(),
+        &iterated,
+        "refused: line 2: limit iterated 4097\n",
+    )?;
     let endos = repeated(rt.alloc(), "generators x\n", "endo x -> x\n", 17, "")?;
     is_bad(rt.alloc(), &endos, "refused: line 18: limit endos 17\n")
 }

@@ -54,7 +54,10 @@ const BAD_TEXTS: [(&str, &str); 16] = [
     ("fixed x\n# none", "refused: line 2: syntax\n"),
     // with one it is at the line before it, or at the second one
     ("\nfixed x\ngenerators x\n", "refused: line 2: syntax\n"),
-    ("generators x\n\ngenerators y\n", "refused: line 3: syntax\n"),
+    (
+        "generators x\n\ngenerators y\n",
+        "refused: line 3: syntax\n",
+    ),
     ("generators\n", "refused: line 1: syntax\n"),
     ("generators x\nfixed x^\n", "refused: line 2: syntax\n"),
     ("generators x\nfixed 2\n", "refused: line 2: syntax\n"),

@@ -2,6 +2,7 @@
 
 mod answers;
 mod devices;
+mod faults;
 mod limits;
 mod refusals;
 

@@ -26,8 +26,8 @@ ratio() {
 }
 
 reader() {
-    # 4,096 relators of 1,020 bytes and 510 letters each
-    awk 'BEGIN { print "generators x y"; for (i = 0; i < 4096; i++) { line = "fixed x"; for (k = 0; k < 254; k++) line = line "*y*x"; print line } }' >"$work/long"
+    # 4,095 relators of 1,023 bytes and 509 letters each
+    awk 'BEGIN { print "generators x y"; for (i = 0; i < 4095; i++) { line = "fixed x"; for (k = 0; k < 254; k++) line = line "*y*x"; print line } }' >"$work/long"
     # one line of blanks
     head -c 4194304 /dev/zero | tr '\0' ' ' >"$work/blanks"
     # one relator of 65,536 letters, and a name of a mebibyte

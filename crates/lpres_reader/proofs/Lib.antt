@@ -74,4 +74,3 @@ pub mod CanonicalItems
 pub mod CanonicalLines
 pub mod CanonicalReads
 pub mod CanonicalLengths
-pub mod CanonicalSamples

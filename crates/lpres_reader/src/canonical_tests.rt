@@ -1,85 +1,96 @@
-ghost use Rattle.std.specs.Prelude.{◌≡◌, IfOk, [], ◌∷◌, pos, negsuc, codes, map};
-ghost use Rattle.pq_base.specs.Name.{IsName};
-ghost use Rattle.pq_base.specs.SignedWord.{copies};
+//! Texts, and the canonical texts of what they mean.
 
-use crate::presentation::LPres;
-use crate::write;
-use free_words::{Word, WordRefusal};
-use indexmap::IndexSet;
-use pq_base::Name;
+use crate::{ReadRefusal, read, write};
 use std::alloc::Global;
 
-/// The name of these bytes.
-fn named(text: &[u8]) -> Name
-    requires { IsName text.now }
-    ensures { result ≡ text.now }
-{
-    match Name::of(text) {
-        Some(name) => name,
-        None => unreachable!(),
+const WRITTEN: [(&str, &str); 17] = [
+    (
+        "generators x y\nfixed x^2^y\n",
+        "generators x y\nfixed y^-1*x^2*y\n",
+    ),
+    (
+        "generators x y\nfixed x^y^-1\n",
+        "generators x y\nfixed y^-1*x^-1*y\n",
+    ),
+    (
+        "generators x y\nfixed x^y^x\n",
+        "generators x y\nfixed x^-1*y^-1*x*y*x\n",
+    ),
+    (
+        "generators x y\nfixed x^(y*x)\n",
+        "generators x y\nfixed x^-1*y^-1*x*y*x\n",
+    ),
+    (
+        "generators x y\nfixed x^[x,y]\n",
+        "generators x y\nfixed y^-1*x^-1*y*x^2*x^-1*y^-1*x*y\n",
+    ),
+    (
+        "generators x y\nfixed [x,y]\n",
+        "generators x y\nfixed x^-1*y^-1*x*y\n",
+    ),
+    (
+        "generators x y\nfixed [x,y,x]\n",
+        "generators x y\nfixed y^-1*x^-1*y*x*x^-2*y^-1*x*y*x\n",
+    ),
+    (
+        "generators x y\nfixed [[x,y],x] = [x,y,x]\n",
+        "generators x y\nfixed y^-1*x^-1*y*x*x^-2*y^-1*x*y*x*x^-1*y^-1*x^-1*y*x^2*x^-1*y^-1*x*y\n",
+    ),
+    (
+        "generators x y\nfixed x = y\n",
+        "generators x y\nfixed x*y^-1\n",
+    ),
+    (
+        "generators x y\nfixed (x*y)^-2\n",
+        "generators x y\nfixed y^-1*x^-1*y^-1*x^-1\n",
+    ),
+    (
+        "generators x y\nfixed x^-0, 1, x^0007, 1^5, x*x^-1\n",
+        "generators x y\nfixed 1\nfixed 1\nfixed x^7\nfixed 1\nfixed x*x^-1\n",
+    ),
+    (
+        "generators x y\nfixed ((x)), (x*(y*x))^1\n",
+        "generators x y\nfixed x\nfixed x*y*x\n",
+    ),
+    (
+        "generators x, y ,z\niterated x^3*y^-12*z\nfixed z\n# none\n\n \t\r\nfixed y",
+        "generators x y z\nfixed z\nfixed y\niterated x^3*y^-12*z\n",
+    ),
+    (
+        "generators fixed endo generators\nfixed fixed*endo\nendo endo -> fixed, fixed -> endo, generators -> generators^endo\n",
+        "generators fixed endo generators\nfixed fixed*endo\nendo fixed -> endo, endo -> fixed, generators -> endo^-1*generators*endo\n",
+    ),
+    (
+        "generators x y\nendo y->x*y,x->1\nendo x -> x, y -> y\r\n",
+        "generators x y\nendo x -> 1, y -> x*y\nendo x -> x, y -> y\n",
+    ),
+    (
+        "generators x_1 X1\nfixed x_1*X1*X1*x_1^2\n",
+        "generators x_1 X1\nfixed x_1*X1^2*x_1^2\n",
+    ),
+    (
+        "generators a t u\nfixed u*t^-1, 1, a^-12\niterated a^2, [a,a^u]\nendo a -> a, t -> t, u -> u*t\n",
+        "generators a t u\nfixed u*t^-1\nfixed 1\nfixed a^-12\niterated a^2\niterated a^-1*u^-1*a^-1*u*a*u^-1*a*u\nendo a -> a, t -> t, u -> u*t\n",
+    ),
+];
+
+/// Whether what a text means has this canonical text.
+fn is_written(alloc: Global, text: &str, canonical: &str) -> Result<bool, ReadRefusal> {
+    if text.len() > 1000 {
+        return Ok(false);
     }
-}
-
-fn names(alloc: Global) -> Result<IndexSet<Name>, WordRefusal>
-    ensures { IfOk result (λ names. names.keys ≡ codes "a" ∷ codes "t" ∷ codes "u" ∷ []) }
-{
-    let mut names = IndexSet::new(alloc);
-    names.insert(named(b"a"))?;
-    names.insert(named(b"t"))?;
-    names.insert(named(b"u"))?;
-    Ok(names)
-}
-
-/// `u*t^-1`, the empty word and `a^-12`.
-fn fixed(alloc: Global) -> Result<Vec<Word>, WordRefusal>
-    ensures { IfOk result (λ words. words.items ≡ (pos 3 ∷ negsuc 1 ∷ []) ∷ [] ∷ copies (negsuc 0 ∷ []) 12 ∷ []) }
-{
-    let mut words = Vec::new(alloc);
-    words.push(Word::of(alloc, &[3, -2])?)?;
-    words.push(Word::of(alloc, &[])?)?;
-    words.push(Word::of(alloc, &[-1, -1, -1, -1, -1, -1, -1, -1, -1, -1, -1, -1])?)?;
-    Ok(words)
-}
-
-/// `a^2` and `[a,a^u]`.
-fn iterated(alloc: Global) -> Result<Vec<Word>, WordRefusal>
-    ensures { IfOk result (λ words. words.items ≡ (pos 1 ∷ pos 1 ∷ [])
-        ∷ (negsuc 0 ∷ negsuc 2 ∷ negsuc 0 ∷ pos 3 ∷ pos 1 ∷ negsuc 2 ∷ pos 1 ∷ pos 3 ∷ []) ∷ []) }
-{
-    let mut words = Vec::new(alloc);
-    words.push(Word::of(alloc, &[1, 1])?)?;
-    words.push(Word::of(alloc, &[-1, -3, -1, 3, 1, -3, 1, 3])?)?;
-    Ok(words)
-}
-
-/// `a -> a, t -> t, u -> u*t`.
-fn images(alloc: Global) -> Result<Vec<Word>, WordRefusal>
-    ensures { IfOk result (λ words. words.items ≡ (pos 1 ∷ []) ∷ (pos 2 ∷ []) ∷ (pos 3 ∷ pos 2 ∷ []) ∷ []) }
-{
-    let mut words = Vec::new(alloc);
-    words.push(Word::of(alloc, &[1])?)?;
-    words.push(Word::of(alloc, &[2])?)?;
-    words.push(Word::of(alloc, &[3, 2])?)?;
-    Ok(words)
-}
-
-/// A lamplighter group, with two relators that follow from the others.
-fn lamplighter(alloc: Global) -> Result<LPres, WordRefusal> {
-    let names = names(alloc)?;
-    let fixed = fixed(alloc)?;
-    let iterated = iterated(alloc)?;
-    let mut endos = Vec::new(alloc);
-    endos.push(images(alloc)?)?;
-    Ok(LPres::of_parts(names, fixed, iterated, endos))
+    let written = write(alloc, &read(alloc, text.as_bytes())?)?;
+    Ok(written.as_slice() == canonical.as_bytes())
 }
 
 #[test]
-fn a_lamplighter_group(rt: HostRuntime) -> Result<(), WordRefusal> {
-    let alloc = rt.alloc();
-    let text = write(alloc, &lamplighter(alloc)?)?;
-    assert_eq!(rt;
-        text.as_slice(),
-        b"generators a t u\nfixed u*t^-1\nfixed 1\nfixed a^-12\niterated a^2\niterated a^-1*u^-1*a^-1*u*a*u^-1*a*u\nendo a -> a, t -> t, u -> u*t\n".as_slice()
-    );
+fn canonical_texts(rt: HostRuntime) -> Result<(), ReadRefusal> {
+    for (text, canonical) in WRITTEN {
+        assert!(rt; is_written(rt.alloc(), text, canonical)?, "{text}");
+        assert!(rt;
+            is_written(rt.alloc(), canonical, canonical)?,
+            "{canonical}"
+        );
+    }
     Ok(())
 }

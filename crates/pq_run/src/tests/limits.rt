@@ -3,8 +3,8 @@ use pq_base::Status;
 use std::alloc::{AllocError, Global};
 use std::test::Fail;
 
-/// The most bytes of an input.
-const BYTES: usize = 4_194_304;
+/// 64 blanks: the most bytes of an input are 65,536 times as many.
+const BLANKS: &str = "                                                                ";
 
 /// The answer where x is left at the prime 2.
 const ONE_LEFT: &str =
@@ -37,19 +37,19 @@ fn is_bad(alloc: Global, text: &[u8], line: &str) -> Result<(), Fail> {
 
 #[test]
 fn bytes_of_an_input(rt: HostRuntime) -> Result<(), Fail> {
-    let blanks = vec![in rt.alloc(); b' '; BYTES + 1]?;
+    let too_many = repeated(rt.alloc(), " ", BLANKS, 65_536, "")?;
     ends_so(
         rt.alloc(),
         "quotient 2 1",
-        &blanks,
+        &too_many,
         Status::InputTooLong,
         "refused: input above 4194304 bytes\n",
     )?;
-    is_bad(rt.alloc(), &blanks[1..], "refused: line 1: syntax\n")?;
-    let mut longest = blanks;
-    let start = b"generators x";
-    longest[..start.len()].copy_from_slice(start);
-    longest.truncate(BYTES);
+    let most = repeated(rt.alloc(), "", BLANKS, 65_536, "")?;
+    is_bad(rt.alloc(), &most, "refused: line 1: syntax\n")?;
+    // the same number of bytes, since the first part has as many as the others
+    let start = "generators x                                                    ";
+    let longest = repeated(rt.alloc(), start, BLANKS, 65_535, "")?;
     ends_so(rt.alloc(), "quotient 2 1", &longest, Status::Done, ONE_LEFT)
 }
 

@@ -7,9 +7,10 @@ use Rattle.pc_presentation.specs.Collection.{add_row, spelled, push_word, push_c
 use Rattle.pc_presentation.specs.Tailed.{Element, rowed_presentation, IsElement, with_state, side_with_tail, places_of}
 use Rattle.pc_presentation.proofs.TailedLaws.{places_of-syllables_of}
 use Rattle.pc_presentation.proofs.ElementConditions.{exponent-below_prime, set-element, cleared-element, prime-positive}
+use Rattle.pc_presentation.proofs.PushesLeft.{after, copies-left, spelled-left}
 use Rattle.pc_presentation.proofs.RelationSides.{side-generators, side-later}
 use Rattle.plain_collector.specs.Steps.{raised, passed}
-use Rattle.plain_collector.proofs.Progress.{after, copies-left, spelled-left, syllables-left, no_syllables-left, side-pushed, pass-step, raise-carry, raise-plain, push-made}
+use Rattle.plain_collector.proofs.Progress.{syllables-left, no_syllables-left, side-pushed, pass-step, raise-carry, raise-plain, push-made}
 use Rattle.plain_collector.proofs.steps.+plain.Goals as goal
 
 -- a letter that has passed

@@ -1,5 +1,5 @@
 -- A push of a generator goes on with later ones alone. What is left to push decides.
-use Rattle.std.proofs.Common.{◌≡◌, ◌-◌, ◌+◌, ◌*◌, ℕ, List, get_or, replicate, drop}
+use Rattle.std.proofs.Common.{◌≡◌, ◌-◌, ◌+◌, ◌*◌, ℕ, get_or, replicate, drop}
 use Rattle.pc_presentation.specs.Syllable.{syllables_of}
 use Rattle.pc_presentation.specs.Relation.{side_start}
 use Rattle.pc_presentation.specs.Pcp.{right_side}

@@ -9,7 +9,7 @@ use Rattle.pq_base.specs.SignedWord.{IsLetter}
 use Rattle.pq_base.specs.Table.{AllBelow}
 use Rattle.pq_base.specs.Canonical.{unit}
 use Rattle.pq_base.specs.Elementary.{zeros}
-use Rattle.pq_base.proofs.ClassOneAnswer.{unit-below}
+use Rattle.pq_base.proofs.UnitLaws.{unit-below}
 use Rattle.fp_rows.specs.Rows.{add_rows, scale_row}
 use Rattle.fp_rows.specs.Row.{PrimeRow}
 use Rattle.fp_rows.proofs.RowLaws.{add_rows_comm, add_rows_assoc, add_rows-zeros, scale_row-one, scale_row-zeros}

@@ -9,8 +9,8 @@ use Rattle.pq_base.specs.Answer.{Answer, Definition, class_of, definition_at}
 use Rattle.pq_base.specs.Answer.Definition.{image, commutator, power}
 use Rattle.pq_base.specs.Canonical.{numbers_from, unit, new_count, new_part, rank_up_to, want_order, up_to_class, AreMet, DefinesNext, DefinesNone}
 use Rattle.pq_base.specs.ClassOne.{left_count, class_one_definitions}
-use Rattle.pq_base.proofs.ClassOneAnswer.{left_before, left_before-below, left_place, LeftPlace, get_or-class_one_definitions}
-use Rattle.class_one.proofs.ElementaryTables.{last_or_zero-limit}
+use Rattle.pq_base.proofs.LeftGenerators.{left_before, left_before-below, left_place, LeftPlace, get_or-class_one_definitions}
+use Rattle.pq_base.proofs.ElementaryTables.{last_or_zero-limit}
 use Rattle.class_one.specs.FirstClass.{left_of, negative_row, first_class_image, first_class_answer, IsRelatorBasis, FirstClassAnswerIsCanonical}
 use Rattle.class_one.proofs.LeftMembers.{left_before-zero, length-left_of, get_or-left_of, left_flag, left_before-past, left_before-suc_true, left_before-suc_false, left_before-less}
 use Rattle.class_one.proofs.PivotValues.{length-negative_row}

@@ -14,8 +14,9 @@ use Rattle.pq_base.specs.Answer.Definition.{image}
 use Rattle.pq_base.specs.Canonical.{numbers_from, unit}
 use Rattle.pq_base.specs.ClassOne.{left_count, class_one_definitions}
 use Rattle.pq_base.proofs.ElementarySides.{elementary-presentation}
-use Rattle.pq_base.proofs.ClassOneAnswer.{left_before, left_before-below, left_place, length-unit, unit-below, word_from-unit, length-class_one_definitions, get_or-class_one_definitions}
-use Rattle.class_one.proofs.ElementaryTables.{replicate-weights}
+use Rattle.pq_base.proofs.UnitLaws.{length-unit, unit-below, word_from-unit}
+use Rattle.pq_base.proofs.LeftGenerators.{left_before, left_before-below, left_place, length-class_one_definitions, get_or-class_one_definitions}
+use Rattle.pq_base.proofs.ElementaryTables.{replicate-weights}
 use Rattle.class_one.specs.FirstClass.{left_of, negative_row, image_where, first_class_image, first_class_answer, IsPivotRow}
 use Rattle.class_one.proofs.LeftMembers.{length-left_of, left_before-take, left_flag}
 use Rattle.class_one.proofs.PivotValues.{length-negative_row}

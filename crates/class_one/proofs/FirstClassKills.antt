@@ -20,7 +20,7 @@ use Rattle.pq_base.proofs.RangeLaws.{generators, length-letters_from, get_or-gen
 use Rattle.pq_base.proofs.JoinedLaws.{joined-from_equal, joined-sym, joined-trans, commute-from_comm}
 use Rattle.pq_base.proofs.ExponentSums.{exponent_sum, exponent_sum-copies, exponent_sum-comm, count_letters}
 use Rattle.pq_base.proofs.ElementaryLaws.{trivial-from_sums}
-use Rattle.pq_base.proofs.ClassOneAnswer.{left_place}
+use Rattle.pq_base.proofs.LeftGenerators.{left_place}
 use Rattle.class_one.specs.ExponentRows.{sums_mod}
 use Rattle.class_one.specs.FirstClass.{left_of, negative_row, first_class_image, first_class_answer, IsPivotRow, IsBasisRow, IsRelatorBasis}
 use Rattle.class_one.proofs.ElementaryParts.{IsElementaryIn}

@@ -3,7 +3,7 @@ use Rattle.std.proofs.Common.{refl, arith}
 use Rattle.pq_base.specs.ClassOne.{left_count}
 use Rattle.pq_base.proofs.ElementaryLaws.{elementary_laws}
 use Rattle.pq_base.proofs.Generated.{generated}
-use Rattle.class_one.proofs.ElementaryTables.{last_or_zero-limit}
+use Rattle.pq_base.proofs.ElementaryTables.{last_or_zero-limit}
 use Rattle.class_one.specs.FirstClass.{first_class_answer, FirstClassAnswerIsLargest}
 use Rattle.class_one.proofs.FirstClassFacts.{first_class_answer-is_answer}
 use Rattle.class_one.proofs.FirstClassKills.{first_class_answer-kills}

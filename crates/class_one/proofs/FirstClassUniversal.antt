@@ -12,8 +12,8 @@ use Rattle.pq_base.specs.ClassOne.{left_count}
 use Rattle.pq_base.proofs.Groups.{Group}
 use Rattle.pq_base.proofs.GroupCommute.{commute-from_commutator}
 use Rattle.pq_base.proofs.TableGroup.{Element, table_group, elements, get_or-elements, value_in-table_group, power_in-table_group, value-letter}
-use Rattle.pq_base.proofs.ClassOneAnswer.{left_before}
-use Rattle.class_one.proofs.ElementaryTables.{power-neutral, commutator-neutral, obeys_relators}
+use Rattle.pq_base.proofs.LeftGenerators.{left_before}
+use Rattle.pq_base.proofs.ElementaryTables.{power-neutral, commutator-neutral, obeys_relators}
 use Rattle.class_one.specs.ExponentRows.{sums_mod}
 use Rattle.class_one.specs.FirstClass.{left_of, negative_row, first_class_answer, IsRelatorRow, IsRelatorBasis}
 use Rattle.class_one.proofs.ElementaryParts.{IsElementaryIn}

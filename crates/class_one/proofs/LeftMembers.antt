@@ -3,7 +3,7 @@ use Rattle.std.proofs.Common.{sym, ◌∙◌, true≢false, ◌<◌, ◌≤◌, 
 use Rattle.std.proofs.lemmas.List.{get_or_past}
 use Rattle.pq_base.specs.Table.{AllBelow}
 use Rattle.pq_base.specs.ClassOne.{left_count}
-use Rattle.pq_base.proofs.ClassOneAnswer.{left_before, not_left_past}
+use Rattle.pq_base.proofs.LeftGenerators.{left_before, not_left_past}
 use Rattle.class_one.specs.FirstClass.{left_of}
 
 pub length-left_of : {A : Type 0} → (flags : List Bool) (xs : List A) → length flags ≡ length xs → length (left_of flags xs) ≡ left_count flags

@@ -1,4 +1,3 @@
-pub mod ElementaryTables
 pub mod ElementaryParts
 pub mod RowValues
 pub mod LeftMembers

@@ -2,7 +2,7 @@
 use Rattle.std.proofs.Common.{◌≡◌, ℕ, suc, ◌+◌, ◌<◌, Bool, true, false, List, [], ◌∷◌, get_or, length, take, ap, sym, ◌∙◌, subst, arith, add-one}
 use Rattle.std.proofs.lemmas.List.{get_or_default}
 use Rattle.pq_base.specs.ClassOne.{left_count}
-use Rattle.pq_base.proofs.ClassOneAnswer.{left_before, left_before-below}
+use Rattle.pq_base.proofs.LeftGenerators.{left_before, left_before-below}
 use Rattle.pc_presentation.specs.Syllable.{syllable, syllables_of}
 use Rattle.fp_rows.specs.Row.{PrimeRow}
 use Rattle.fp_echelon.specs.Reduced.{IsPivot, at_pivot}

@@ -8,7 +8,7 @@ use Rattle.pq_base.specs.Canonical.{unit}
 use Rattle.pq_base.specs.Elementary.{zeros}
 use Rattle.pq_base.proofs.Groups.{Group, power_in, element_in, value_in, same_from_equal, power_in-same, value_in-append, value_in-copies, value_in-letter}
 use Rattle.pq_base.proofs.GroupCommute.{power_in-times}
-use Rattle.pq_base.proofs.ClassOneAnswer.{length-unit}
+use Rattle.pq_base.proofs.UnitLaws.{length-unit}
 use Rattle.fp_rows.specs.Rows.{add_rows, scale_row}
 use Rattle.fp_rows.proofs.RowLaws.{length-add_rows, length-scale_row}
 use Rattle.class_one.specs.ExponentRows.{letter_row, sums_mod}

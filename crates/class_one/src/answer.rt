@@ -13,7 +13,7 @@ use crate::basis::basis_of_sums;
 use crate::images::{definitions, images, left_count, pivot_flags};
 use lpres_reader::LPres;
 use pc_presentation::{Answer, PcpBuilder, Syllable};
-use pq_base::{Name, NoMemory, Prime};
+use pq_base::{Name, NoMemory, Prime, names_copied};
 use std::alloc::Global;
 
 /// The largest quotient of class 1 of a presentation without endomorphisms, in its canonical form. An image that is a
@@ -47,25 +47,11 @@ fn answer_of_images(
     let pcp = PcpBuilder::new(alloc, prime, &weights, 0)?.finish();
     match Answer::of(
         pcp,
-        copied(alloc, names)?,
+        names_copied(alloc, names)?,
         definitions(alloc, pivots)?,
         images,
     ) {
         Some(answer) => Ok(answer),
         None => unreachable!(),
     }
-}
-
-/// Equal names.
-fn copied(alloc: Global, names: &[Name]) -> Result<Vec<Name>, NoMemory>
-    ensures { IfOk result (λ v. v.items ≡ names.now) }
-{
-    let mut copies = Vec::new(alloc);
-    for name in names {
-        match Name::of(name.bytes()) {
-            Some(copy) => copies.push(copy)?,
-            None => unreachable!(),
-        }
-    }
-    Ok(copies)
 }

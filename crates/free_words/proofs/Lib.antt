@@ -1,5 +1,5 @@
 pub mod Lengths
-pub mod LetterPlaces
+pub mod LastLetters
 pub mod Powers
 pub mod Substitutions
 pub mod Reductions

@@ -5,7 +5,7 @@ use Rattle.std.proofs.Math.IntN.{neg_ℤ-neg_ℤ}
 use Rattle.pq_base.specs.SignedWord.{IsLetter, HasLetters}
 use Rattle.pq_base.proofs.LetterLaws.{HasLetters-append, HasLetters-append_left}
 use Rattle.free_words.specs.Letters.{AreLetters}
-use Rattle.free_words.proofs.LetterPlaces.{IsLetter-get_or}
+use Rattle.pq_base.proofs.LetterLaws.{IsLetter-get_or}
 use Rattle.free_words.specs.Reduced.{IsReduced, ReducesTo, TakesLetter}
 use Rattle.free_words.specs.Reduced.ReducesTo.{delete}
 

@@ -32,10 +32,7 @@ fn names_copied(alloc: Global, names: &[Name]) -> Result<IndexSet<Name>, NoMemor
 {
     let mut copies = IndexSet::new(alloc);
     for name in names {
-        match Name::of(name.bytes()) {
-            Some(copy) => copies.insert(copy)?,
-            None => unreachable!(),
-        };
+        copies.insert(name.duplicate())?;
     }
     Ok(copies)
 }

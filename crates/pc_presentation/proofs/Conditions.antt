@@ -1,8 +1,8 @@
 -- The conditions of an answer hold of the parts exactly where the tests pass.
-use Rattle.std.proofs.Common.{◌≡◌, ℕ, zero, suc, ◌+◌, ◌-◌, ◌<◌, ◌≤◌, ℤ, List, [], ◌∷◌, get_or, length, map, refl, ap, sym, ◌∙◌, subst, arith}
+use Rattle.std.proofs.Common.{◌≡◌, ℕ, zero, suc, ◌+◌, ◌-◌, ◌<◌, List, [], get_or, length, map, ap, sym, ◌∙◌, subst, arith}
 use Rattle.std.proofs.lemmas.List.{get_or-map, length-map}
-use Rattle.pq_base.specs.Presentation.{Presentation, letter, word_from, normal_word, power_side, commutator_side}
-use Rattle.pq_base.specs.Answer.{Answer, IsAnswer, HasDefinition, image_words, definition_at}
+use Rattle.pq_base.specs.Presentation.{Presentation, normal_word, power_side, commutator_side}
+use Rattle.pq_base.specs.Answer.{Answer, HasDefinition, image_words}
 use Rattle.pq_base.specs.Answer.Definition.{image}
 use Rattle.pc_presentation.specs.declared.syllable.Syllable.{Syllable}
 use Rattle.pc_presentation.specs.declared.relation.Relation.TheVariants.{Power as PowerOf, Commutator as CommutatorOf}
@@ -11,7 +11,7 @@ use Rattle.pc_presentation.specs.declared.definition.Definition.TheVariants.{Ima
 use Rattle.pc_presentation.specs.Syllable.{spread, syllables_of, IsGenerator}
 use Rattle.pc_presentation.specs.Pcp.{TailedPresentation, IsTailedPresentation, right_side}
 use Rattle.pc_presentation.specs.Definition.{definition_of}
-use Rattle.pc_presentation.specs.Parts.{answer_of, AreImages, AreParts, AreTested, IsDefined, AreDefined}
+use Rattle.pc_presentation.specs.Parts.{answer_of, AreImages, AreParts, AreTested, IsDefined}
 use Rattle.pc_presentation.proofs.PcpLaws.{offered-positive}
 use Rattle.pc_presentation.proofs.PartsLaws.{AreWeights-tested, are_weights-AreWeights, image_at, AreNormal-spread, IsGenerator-word, word_from-IsGenerator}
 

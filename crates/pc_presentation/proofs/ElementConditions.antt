@@ -1,14 +1,13 @@
 -- What keeps an element one of its presentation: exponents below the prime, cleared exponents, rows of tails, and pushes of
 -- a collector.
-use Rattle.std.proofs.Common.{◌≡◌, ℕ, zero, suc, ◌+◌, ◌-◌, ◌<◌, ◌≤◌, Option, List, [], ◌∷◌, ◌++◌, get_or, length, replicate, take, refl, ap, sym, ◌∙◌, subst, arith}
+use Rattle.std.proofs.Common.{◌≡◌, ℕ, zero, suc, ◌-◌, ◌<◌, ◌≤◌, Option, List, [], ◌∷◌, ◌++◌, get_or, length, replicate, take, ap, ◌∙◌, arith}
 use Rattle.std.proofs.Math.ListN.{set}
-use Rattle.std.proofs.lemmas.List.{length-set, length-append, length-replicate}
+use Rattle.std.proofs.lemmas.List.{length-set, length-replicate}
 use Rattle.fp_rows.proofs.BelowLaws.{AllBelow-set}
 use Rattle.pq_base.specs.Table.{AllBelow}
 use Rattle.pq_base.specs.Presentation.{IsNormal}
 use Rattle.pq_base.proofs.TableLaws.{get_or-below}
-use Rattle.pc_presentation.specs.Pcp.{TailedPresentation, IsTailedPresentation, row_of}
-use Rattle.pc_presentation.specs.Rowed.{RowedPresentation, row_sum}
+use Rattle.pc_presentation.specs.Pcp.{TailedPresentation, row_of}
 use Rattle.pc_presentation.specs.Collection.{State, IsState, add_row, plain_push}
 use Rattle.pc_presentation.specs.Tailed.{Element, rowed_presentation, IsElement, with_state, cleared_after}
 use Rattle.pc_presentation.proofs.PcpLaws.{offered-positive, offered-two}

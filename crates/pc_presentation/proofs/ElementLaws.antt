@@ -1,13 +1,13 @@
 -- What the calls on elements do to their lists: a tail adds a row with one 1, and a row is added place by place.
-use Rattle.std.proofs.Common.{◌≡◌, ℕ, zero, suc, ◌+◌, ◌-◌, ◌*◌, ◌%◌, ◌<◌, ◌≤◌, Bool, false, cond, eqb, List, [], ◌∷◌, ◌++◌, get_or, length, replicate, refl, ap, ap₂, sym, ◌∙◌, subst, arith, inl, inr, add-zero, one-mul, mod-eq_of_lt}
+use Rattle.std.proofs.Common.{◌≡◌, ℕ, zero, suc, ◌+◌, ◌-◌, ◌%◌, ◌<◌, ◌≤◌, Bool, false, cond, eqb, List, [], ◌∷◌, ◌++◌, get_or, length, replicate, refl, ap, ap₂, sym, ◌∙◌, subst, arith, inl, inr, add-zero, one-mul, mod-eq_of_lt}
 use Rattle.std.proofs.Math.ListN.{set}
 use Rattle.std.proofs.lemmas.Bool.Decides.{eqb_tells}
 use Rattle.pq_base.specs.Table.{AllBelow}
-use Rattle.fp_rows.specs.Rows.{add_rows, scale_row, add_scaled}
+use Rattle.fp_rows.specs.Rows.{add_scaled}
 use Rattle.fp_rows.specs.Row.{PrimeRow, IsColumn}
 use Rattle.pc_presentation.specs.Pcp.{unit_row}
 use Rattle.pc_presentation.specs.Rowed.{row_sum}
-use Rattle.pc_presentation.specs.Collection.{State, add_row}
+use Rattle.pc_presentation.specs.Collection.{add_row}
 use Rattle.pc_presentation.specs.Tailed.{Element, with_state}
 
 -- a zero more

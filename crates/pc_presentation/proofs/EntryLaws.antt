@@ -1,6 +1,6 @@
 -- Reading a table after one of its entries is replaced: the new entry there, the old ones elsewhere, and the same shape.
 -- Tables of one shape with the same entries are one table.
-use Rattle.std.proofs.Common.{◌≡◌, ◌≢◌, ℕ, zero, suc, ◌-◌, ◌<◌, ◌≤◌, Bool, cond, eqb, List, [], get_or, length, refl, ap, sym, ◌∙◌, subst, arith}
+use Rattle.std.proofs.Common.{◌≡◌, ◌≢◌, ℕ, suc, ◌-◌, ◌<◌, Bool, cond, eqb, List, [], get_or, length, refl, ap, sym, ◌∙◌, subst, arith}
 use Rattle.std.proofs.lemmas.List.{ext_get_or}
 use Rattle.std.proofs.lemmas.Bool.{eq-eqb, ne_eqb}
 use Rattle.pc_presentation.specs.declared.relation.Relation.{Relation}
@@ -8,7 +8,7 @@ use Rattle.pc_presentation.specs.declared.relation.Relation.TheVariants.{Power, 
 use Rattle.pc_presentation.specs.Relation.{IsRelation, PerRelation, entry_at, with_entry, per_relation, relation_number}
 use Rattle.pc_presentation.specs.Pcp.{HasShape}
 use Rattle.pc_presentation.proofs.RelationNumbers.{relation_number-injective}
-use Rattle.pc_presentation.proofs.RelationTables.{entry_at-per_relation, per_relation-shape, Replaces, with_entry-per_relation}
+use Rattle.pc_presentation.proofs.RelationTables.{entry_at-per_relation, per_relation-shape, with_entry-per_relation}
 
 less_one : (i : ℕ) → i ≡ suc i - 1
 less_one i = omega arith

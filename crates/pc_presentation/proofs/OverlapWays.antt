@@ -1,16 +1,16 @@
 -- The two ways of an overlap as sparse words pushed on the element one: the letters of the left way, and those of the right
 -- way up to the right side of a relation, which follows with its tail.
-use Rattle.std.proofs.Common.{◌≡◌, ℕ, suc, pred, ◌+◌, ◌-◌, ◌<◌, ◌≤◌, Option, None, List, [], ◌∷◌, ◌++◌, length, replicate, refl, ap, sym, ◌∙◌, subst, arith, append_assoc}
+use Rattle.std.proofs.Common.{◌≡◌, ℕ, suc, pred, ◌-◌, ◌<◌, ◌≤◌, None, List, [], ◌∷◌, ◌++◌, length, replicate, ap, sym, ◌∙◌, subst, arith, append_assoc}
 use Rattle.pq_base.specs.Table.{AllBelow}
 use Rattle.pq_base.specs.Presentation.{commutator_side}
 use Rattle.pc_presentation.specs.declared.syllable.Syllable.{Syllable}
-use Rattle.pc_presentation.specs.declared.relation.Relation.TheVariants.{Power, Commutator}
+use Rattle.pc_presentation.specs.declared.relation.Relation.TheVariants.{Commutator}
 use Rattle.pc_presentation.specs.Syllable.{syllable, AreGenerators}
 use Rattle.pc_presentation.specs.Pcp.{TailedPresentation, IsTailedPresentation}
 use Rattle.pc_presentation.specs.Rowed.{RowedPresentation}
 use Rattle.pc_presentation.specs.Collection.{Configuration, State, IsState, identity, spelled, add_row, push_word, push_configuration}
 use Rattle.pc_presentation.specs.Overlaps.{right_way}
-use Rattle.pc_presentation.specs.Overlaps.Overlap.{triple, left, right, own}
+use Rattle.pc_presentation.specs.Overlaps.Overlap.{triple, left}
 use Rattle.pc_presentation.specs.Arithmetic.{IsMeaning}
 use Rattle.pc_presentation.specs.Tailed.{Element, rowed_presentation, IsElement, with_state, places_of, sparse_configuration}
 use Rattle.pc_presentation.specs.OverlapNumbers.{before_side}
@@ -21,7 +21,7 @@ use Rattle.pc_presentation.proofs.PushLaws.{push_word-append}
 use Rattle.pc_presentation.proofs.RowLaws.{row_sum-zeros, identity-state}
 use Rattle.pc_presentation.proofs.TailedLaws.{rowed_presentation-is}
 use Rattle.pc_presentation.proofs.ConsistentOverlaps.{pushed-state}
-use Rattle.pc_presentation.proofs.RelationSides.{power_side-numbered, commutator_side-numbered}
+use Rattle.pc_presentation.proofs.RelationSides.{commutator_side-numbered}
 
 -- the places of a sparse word of n generators
 pub places_of-below : (n : ℕ) (w : List Syllable) → AreGenerators n w → AllBelow n (places_of w)

@@ -1,19 +1,16 @@
 -- The conditions of an answer as they are tested, and as they are stated of the answer that the parts make.
-use Rattle.std.proofs.Common.{◌≡◌, ◌↔◌, ◌≢◌, ℕ, zero, suc, ◌+◌, ◌-◌, ◌<◌, ◌≤◌, ℤ, pos, Bool, true, false, List, [], ◌∷◌, ◌++◌, ◌&&◌, get_or, length, map, drop, nat_eq, refl, ap, sym, ◌∙◌, subst, arith}
-use Rattle.std.specs.Prelude.{All, nat_le}
+use Rattle.std.proofs.Common.{◌≡◌, ◌≢◌, ℕ, zero, suc, ◌+◌, ◌-◌, ◌<◌, ◌≤◌, true, false, List, [], ◌∷◌, ◌&&◌, get_or, length, map, drop, nat_eq, refl, ap, sym, ◌∙◌, arith}
+use Rattle.std.specs.Prelude.{nat_le}
 use Rattle.std.specs.declared.vec.Vec.{Vec}
 use Rattle.std.specs.Global.{Global}
 use Rattle.std.proofs.lemmas.Bool.{and_parts, and_from, leb-true, le-leb, both_ways}
 use Rattle.std.proofs.lemmas.List.{get_or-map, length-map, length-drop, get_or-drop, get_or_read}
 use Rattle.std.specs.Cmp.Lexicographic.{pointwise, bytes_decides}
 use Rattle.pq_base.specs.LPresentation.{AreDistinct}
-use Rattle.pq_base.specs.SignedWord.{copies}
-use Rattle.pq_base.specs.Table.{AllBelow}
-use Rattle.pq_base.specs.Presentation.{Presentation, IsNormal, letter, word_from, normal_word}
-use Rattle.pq_base.specs.Answer.{Answer, IsAnswer, AreWeights, AreNormal, HasDefinition, last_or_zero, definition_at, image_words, word_at}
-use Rattle.pq_base.specs.Answer.Definition.{image}
+use Rattle.pq_base.specs.Presentation.{letter, word_from}
+use Rattle.pq_base.specs.Answer.{AreWeights, AreNormal, last_or_zero}
 use Rattle.pc_presentation.specs.declared.syllable.Syllable.{Syllable}
-use Rattle.pc_presentation.specs.Syllable.{syllable, spread, syllables_of, AreSyllables, letters_of, IsGenerator}
+use Rattle.pc_presentation.specs.Syllable.{syllable, spread, syllables_of, letters_of, IsGenerator}
 use Rattle.pc_presentation.specs.Parts.{words_of, AreImages, are_weights}
 use Rattle.pc_presentation.proofs.SyllableLaws.{length-spread, AllBelow-spread, syllables_of-spread, letters_of-syllables_of}
 

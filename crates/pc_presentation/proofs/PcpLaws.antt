@@ -1,16 +1,15 @@
 -- What is kept of a presentation is one: entries with sparse words over later generators make a presentation with tails,
 -- whose right sides are those words.
-use Rattle.std.proofs.Common.{◌≡◌, ℕ, zero, suc, ◌+◌, ◌-◌, ◌<◌, ◌≤◌, Option, None, List, [], ◌∷◌, length, refl, ap, sym, ◌∙◌, subst, arith, inl, inr}
+use Rattle.std.proofs.Common.{◌≡◌, ℕ, suc, ◌+◌, ◌-◌, ◌≤◌, None, List, [], length, refl, ap, sym, ◌∙◌, subst, arith, inl, inr}
 use Rattle.pq_base.specs.declared.prime.Prime.{Prime}
 use Rattle.pq_base.specs.declared.prime.Prime.TheVariants.{P2, P3, P5, P7}
 use Rattle.pq_base.specs.Prime.{prime_value, IsOffered}
 use Rattle.pq_base.specs.Table.{AllBelow}
-use Rattle.pq_base.specs.Presentation.{Presentation, IsPresentation, IsLaterSide, power_side, commutator_side}
-use Rattle.pc_presentation.specs.declared.syllable.Syllable.{Syllable}
+use Rattle.pq_base.specs.Presentation.{IsLaterSide, power_side, commutator_side}
 use Rattle.pc_presentation.specs.declared.relation.Relation.{Relation}
 use Rattle.pc_presentation.specs.declared.relation.Relation.TheVariants.{Power, Commutator}
-use Rattle.pc_presentation.specs.Syllable.{spread, syllables_of, AreSyllables}
-use Rattle.pc_presentation.specs.Relation.{IsRelation, IsTail, side_start, entry_at, per_relation}
+use Rattle.pc_presentation.specs.Syllable.{spread, syllables_of}
+use Rattle.pc_presentation.specs.Relation.{IsRelation, IsTail, side_start, per_relation}
 use Rattle.pc_presentation.specs.Store.{Entry, stored_at, AreEntries}
 use Rattle.pc_presentation.specs.Pcp.{TailedPresentation, IsTailedPresentation, HasShape, tailed_presentation, right_side, tail_of}
 use Rattle.pc_presentation.proofs.SyllableLaws.{length-spread, AllBelow-spread, syllables_of-spread}

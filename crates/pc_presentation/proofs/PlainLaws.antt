@@ -1,13 +1,11 @@
 -- Empty words make the presentation of the elementary abelian group, in which no relation has a tail.
-use Rattle.std.proofs.Common.{◌≡◌, ℕ, zero, suc, ◌+◌, ◌-◌, ◌<◌, ◌≤◌, Option, None, Bool, false, List, [], ◌∷◌, get_or, length, replicate, refl, ap, sym, ◌∙◌, subst, arith}
-use Rattle.std.proofs.lemmas.List.{length-replicate}
+use Rattle.std.proofs.Common.{◌≡◌, ℕ, zero, suc, ◌+◌, ◌-◌, Option, None, false, List, [], ◌∷◌, get_or, length, replicate, refl, ap, ◌∙◌, arith}
 use Rattle.pq_base.specs.Elementary.{zeros, zero_powers, zero_rows}
 use Rattle.pc_presentation.specs.declared.relation.Relation.{Relation}
-use Rattle.pc_presentation.specs.declared.relation.Relation.TheVariants.{Power, Commutator}
-use Rattle.pc_presentation.specs.Syllable.{spread, AreSyllables}
-use Rattle.pc_presentation.specs.Relation.{IsRelation, IsTail, side_start, PerRelation, tabulate, per_relation, relation_count, relation_number}
-use Rattle.pc_presentation.specs.Store.{Entry, blank, stored_at, AreEntries}
-use Rattle.pc_presentation.specs.Pcp.{TailedPresentation, tailed_presentation, plain_presentation}
+use Rattle.pc_presentation.specs.Syllable.{spread}
+use Rattle.pc_presentation.specs.Relation.{side_start, PerRelation, tabulate, per_relation, relation_number}
+use Rattle.pc_presentation.specs.Store.{Entry, blank, stored_at}
+use Rattle.pc_presentation.specs.Pcp.{tailed_presentation, plain_presentation}
 use Rattle.pc_presentation.proofs.RelationTables.{tabulate_agree, per_relation_agree}
 use Rattle.pc_presentation.proofs.PcpLaws.{side_of}
 use Rattle.pc_presentation.proofs.PutLaws.{from_tables}

@@ -1,9 +1,8 @@
 -- Replacing one of the kept entries replaces one relation of the presentation, and keeps that it is one.
-use Rattle.std.proofs.Common.{◌≡◌, ◌≢◌, ℕ, zero, suc, ◌+◌, ◌-◌, ◌<◌, ◌≤◌, Option, None, Bool, false, List, [], ◌∷◌, get_or, length, replicate, refl, ap, sym, ◌∙◌, subst, arith, inl, inr}
+use Rattle.std.proofs.Common.{◌≡◌, ◌≢◌, ℕ, ◌-◌, Option, Bool, false, List, get_or, length, ap, sym, ◌∙◌, subst, arith, inl, inr}
 use Rattle.std.proofs.Math.ListN.{set}
 use Rattle.std.proofs.lemmas.List.{length-set, get_or-set_same, get_or-set_other}
 use Rattle.std.proofs.lemmas.Bool.{cases_eq}
-use Rattle.pq_base.specs.Presentation.{Presentation}
 use Rattle.pc_presentation.specs.declared.syllable.Syllable.{Syllable}
 use Rattle.pc_presentation.specs.declared.relation.Relation.{Relation}
 use Rattle.pc_presentation.specs.Syllable.{spread, AreSyllables}
@@ -11,7 +10,7 @@ use Rattle.pc_presentation.specs.Relation.{IsRelation, IsTail, side_start, PerRe
 use Rattle.pc_presentation.specs.Store.{Entry, blank, stored_at, AreEntries}
 use Rattle.pc_presentation.specs.Pcp.{TailedPresentation, tailed_presentation, with_relation}
 use Rattle.pc_presentation.proofs.RelationNumbers.{relation_number-below, relation_number-injective}
-use Rattle.pc_presentation.proofs.RelationTables.{Replaces, with_entry-per_relation}
+use Rattle.pc_presentation.proofs.RelationTables.{with_entry-per_relation}
 use Rattle.pc_presentation.proofs.PcpLaws.{side_of}
 
 -- the value at a relation's number is replaced in a list with one for each relation

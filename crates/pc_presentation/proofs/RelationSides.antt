@@ -8,9 +8,9 @@ use Rattle.pc_presentation.specs.declared.relation.Relation.TheVariants.{Power, 
 use Rattle.pc_presentation.specs.Syllable.{syllables_of, AreGenerators, AreLater}
 use Rattle.pc_presentation.specs.Relation.{IsRelation, side_start}
 use Rattle.pc_presentation.specs.Pcp.{TailedPresentation, IsTailedPresentation, right_side, row_of, tail_of}
-use Rattle.pc_presentation.specs.Rowed.{RowedPresentation, power_row, commutator_row}
+use Rattle.pc_presentation.specs.Rowed.{power_row, commutator_row}
 use Rattle.pc_presentation.specs.Collection.{Configuration, spelled}
-use Rattle.pc_presentation.specs.Tailed.{rowed_presentation, places_of, sparse_configuration, side_with_tail}
+use Rattle.pc_presentation.specs.Tailed.{rowed_presentation, sparse_configuration, side_with_tail}
 use Rattle.pc_presentation.proofs.TailedLaws.{power_side-with_tail, commutator_side-with_tail, places_of-syllables_of, generators-syllables_of, later-syllables_of}
 
 module _ (T : TailedPresentation) (is : IsTailedPresentation T) where

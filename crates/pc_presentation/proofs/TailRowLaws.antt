@@ -1,11 +1,11 @@
 -- The rows over the tails that relations carry: one for each relation, each of residues and as wide as there are tails.
-use Rattle.std.proofs.Common.{◌≡◌, ℕ, zero, suc, ◌-◌, ◌<◌, ◌≤◌, Bool, true, false, cond, eqb, Option, None, Some, List, [], ◌∷◌, get_or, length, map, replicate, refl, ap, sym, ◌∙◌, subst, arith}
+use Rattle.std.proofs.Common.{◌≡◌, ℕ, zero, suc, ◌-◌, ◌<◌, ◌≤◌, Bool, true, false, cond, eqb, Option, None, Some, List, [], get_or, length, map, replicate, refl, ap, sym, ◌∙◌, subst, arith}
 use Rattle.std.proofs.lemmas.List.{length-map, length-replicate, get_or-map}
 use Rattle.pq_base.specs.Table.{AllBelow}
 use Rattle.pq_base.specs.Presentation.{IsNormal}
 use Rattle.pc_presentation.specs.declared.relation.Relation.{Relation}
 use Rattle.pc_presentation.specs.declared.relation.Relation.TheVariants.{Power, Commutator}
-use Rattle.pc_presentation.specs.Relation.{IsRelation, PerRelation, entry_at}
+use Rattle.pc_presentation.specs.Relation.{IsRelation, entry_at}
 use Rattle.pc_presentation.specs.Pcp.{TailedPresentation, IsTailedPresentation, HasShape, unit_row, row_of, tail_rows, tail_of}
 
 length-unit_row : (n t : ℕ) → length (unit_row n t) ≡ n

@@ -3,14 +3,13 @@
 use Rattle.std.proofs.Common.{◌≡◌, ℕ, zero, suc, ◌+◌, ◌-◌, ◌<◌, ◌≤◌, List, [], ◌∷◌, ◌++◌, get_or, length, replicate, refl, ap, sym, ◌∙◌, subst, arith}
 use Rattle.pq_base.specs.Presentation.{IsNormal, power_side, commutator_side}
 use Rattle.pc_presentation.specs.declared.syllable.Syllable.{Syllable}
-use Rattle.pc_presentation.specs.declared.relation.Relation.{Relation}
 use Rattle.pc_presentation.specs.declared.relation.Relation.TheVariants.{Power, Commutator}
 use Rattle.pc_presentation.specs.Syllable.{syllable, syllables_of, AreGenerators, AreLater}
-use Rattle.pc_presentation.specs.Relation.{IsRelation, side_start}
+use Rattle.pc_presentation.specs.Relation.{IsRelation}
 use Rattle.pc_presentation.specs.Pcp.{TailedPresentation, IsTailedPresentation, HasShape, right_side, tail_rows}
-use Rattle.pc_presentation.specs.Rowed.{RowedPresentation, IsRowed, power_row, commutator_row}
-use Rattle.pc_presentation.specs.Collection.{Configuration, State, IsState, spelled}
-use Rattle.pc_presentation.specs.Tailed.{Element, rowed_presentation, IsElement, one_of, places_of, sparse_configuration, side_with_tail}
+use Rattle.pc_presentation.specs.Rowed.{IsRowed, power_row, commutator_row}
+use Rattle.pc_presentation.specs.Collection.{Configuration, spelled}
+use Rattle.pc_presentation.specs.Tailed.{rowed_presentation, IsElement, one_of, places_of, side_with_tail}
 use Rattle.pc_presentation.proofs.PcpLaws.{offered-positive, offered-two, one_less}
 use Rattle.pc_presentation.proofs.TailRowLaws.{tail_rows-shape, tail_rows-normal, entry_at-tail_rows}
 use Rattle.pc_presentation.proofs.RowLaws.{identity-state}

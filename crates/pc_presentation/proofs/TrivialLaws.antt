@@ -1,8 +1,7 @@
 -- The parts of the trivial answer meet the conditions of an answer.
-use Rattle.std.proofs.Common.{◌≡◌, ℕ, zero, suc, ◌<◌, ◌≤◌, List, [], ◌∷◌, get_or, length, map, replicate, refl, ap, sym, ◌∙◌, subst, arith}
+use Rattle.std.proofs.Common.{◌≡◌, ℕ, zero, suc, ◌≤◌, List, [], ◌∷◌, length, map, replicate, refl, ap, sym, ◌∙◌, subst, arith}
 use Rattle.std.proofs.lemmas.List.{length-map, length-replicate, get_or-replicate}
 use Rattle.pq_base.specs.LPresentation.{AreDistinct}
-use Rattle.pq_base.specs.Answer.{AreNormal}
 use Rattle.pq_base.proofs.ElementarySides.{elementary-presentation}
 use Rattle.pc_presentation.specs.declared.syllable.Syllable.{Syllable}
 use Rattle.pc_presentation.specs.Syllable.{spread, AreSyllables}

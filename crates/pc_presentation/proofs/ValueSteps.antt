@@ -1,18 +1,13 @@
 -- Evaluating a word letter by letter: what is left of it, from the new element on, has the value that it had before.
-use Rattle.std.proofs.Common.{◌≡◌, ℕ, zero, suc, ◌+◌, ◌<◌, ℤ, pos, negsuc, List, [], ◌∷◌, get_or, length, drop, ap, sym, ◌∙◌, arith}
+use Rattle.std.proofs.Common.{◌≡◌, ℕ, zero, suc, ◌+◌, ◌<◌, ℤ, pos, negsuc, List, ◌∷◌, get_or, length, drop, ap, sym, ◌∙◌, arith}
 use Rattle.std.proofs.Math.ListN.{get_or-map}
 use Rattle.std.proofs.lemmas.List.{drop_more}
-use Rattle.pq_base.specs.SignedWord.{IsLetter, HasLetters}
+use Rattle.pq_base.specs.SignedWord.{IsLetter}
 use Rattle.pc_presentation.specs.Pcp.{TailedPresentation}
 use Rattle.pc_presentation.specs.Collection.{State}
 use Rattle.pc_presentation.specs.Arithmetic.{product_by, evaluate_from}
 use Rattle.pc_presentation.specs.Tailed.{Element, rowed_presentation, IsElement, one_of, with_state}
 use Rattle.pc_presentation.specs.ImageElements.{states_of, letter_value, AreImageElements}
-
-pub letter-get_or : (n : ℕ) (w : List ℤ) (i : ℕ) (d : ℤ) → HasLetters n w → i < length w → IsLetter n (get_or w i d)
-letter-get_or n [] i d h l = absurd (omega arith)
-letter-get_or n (k ∷ w) zero d h l = h.0
-letter-get_or n (k ∷ w) (suc i) d h l = letter-get_or n w i d h.1 (omega arith)
 
 module _ (T : TailedPresentation) (push : State → ℕ → State) (f g : List Element) where
   -- the element after a word

@@ -5,14 +5,12 @@ use Rattle.std.specs.declared.vec.Vec.{Vec}
 use Rattle.std.specs.Global.{Global}
 use Rattle.pq_base.specs.LPresentation.{AreDistinct}
 use Rattle.pq_base.specs.Elementary.{elementary}
-use Rattle.pq_base.specs.Answer.{Answer, IsAnswer, AreWeights}
+use Rattle.pq_base.specs.Answer.{Answer, IsAnswer}
 use Rattle.pc_presentation.specs.declared.syllable.Syllable.{Syllable}
-use Rattle.pc_presentation.specs.declared.relation.Relation.{Relation}
 use Rattle.pc_presentation.specs.declared.relation.Relation.TheVariants.{Power as PowerOf, Commutator as CommutatorOf}
 use Rattle.pc_presentation.specs.declared.definition.Definition.{Definition}
 use Rattle.pc_presentation.specs.declared.definition.Definition.TheVariants.{Image, Commutator, Power}
 use Rattle.pc_presentation.specs.Syllable.{spread, syllables_of, AreSyllables, IsGenerator}
-use Rattle.pc_presentation.specs.Relation.{side_start}
 use Rattle.pc_presentation.specs.Pcp.{TailedPresentation, right_side}
 use Rattle.pc_presentation.specs.Definition.{definition_of}
 

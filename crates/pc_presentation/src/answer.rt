@@ -10,12 +10,12 @@ ghost use Rattle.pc_presentation.specs.Definition.{definition_of};
 ghost use Rattle.pc_presentation.specs.Parts.{words_of, answer_of, AreParts, trivial_answer};
 
 use crate::builder::PcpBuilder;
-use crate::copies::{empty_words, names_copied, words_copied};
+use crate::copies::{empty_words, words_copied};
 use crate::definition::Definition;
 use crate::parts::are_parts;
 use crate::pcp::Pcp;
 use crate::syllable::Syllable;
-use pq_base::{Name, NoMemory, Prime};
+use pq_base::{Name, NoMemory, Prime, names_copied};
 use std::alloc::Global;
 use std::marker::Model;
 

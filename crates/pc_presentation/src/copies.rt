@@ -1,25 +1,11 @@
-//! Copies of names and of words.
+//! Copies of words.
 
 ghost use Rattle.std.specs.Prelude.{◌≡◌, IfOk, replicate, []};
 ghost use Rattle.pc_presentation.specs.Parts.{words_of};
 
 use crate::syllable::Syllable;
-use pq_base::{Name, NoMemory};
+use pq_base::NoMemory;
 use std::alloc::Global;
-
-/// Equal names.
-pub(crate) fn names_copied(alloc: Global, names: &[Name]) -> Result<Vec<Name>, NoMemory>
-    ensures { IfOk result (λ v. v.items ≡ names.now) }
-{
-    let mut copies = Vec::new(alloc);
-    for name in names {
-        match Name::of(name.bytes()) {
-            Some(copy) => copies.push(copy)?,
-            None => unreachable!(),
-        }
-    }
-    Ok(copies)
-}
 
 /// Equal words.
 pub(crate) fn words_copied(

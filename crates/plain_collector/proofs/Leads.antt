@@ -1,6 +1,6 @@
 -- A push leaves the exponents before its generator: pushes on a state are pushes on its later part, with the earlier
 -- exponents put in front again.
-use Rattle.std.proofs.Common.{◌≡◌, ℕ, zero, suc, ◌+◌, List, [], ◌∷◌, ◌++◌, length, replicate, refl, ap, sym, ◌∙◌, subst, arith}
+use Rattle.std.proofs.Common.{◌≡◌, ℕ, zero, suc, ◌+◌, List, [], ◌∷◌, ◌++◌, length, replicate, refl, ap, sym, ◌∙◌, arith}
 use Rattle.pc_presentation.specs.Rowed.{RowedPresentation}
 use Rattle.pc_presentation.specs.Collection.{State, spelled, add_row, before, push_word, push_configuration}
 use Rattle.pc_presentation.proofs.PushLaws.{push_word-append}

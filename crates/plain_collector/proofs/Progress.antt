@@ -1,53 +1,22 @@
 -- How far loops of pushes have come: what is left to push after a step, pushed on the new element, is what was left before
 -- it, pushed on the old one.
-use Rattle.std.proofs.Common.{◌≡◌, ◌≢◌, ℕ, zero, suc, ◌+◌, ◌-◌, ◌<◌, ◌≤◌, Bool, true, false, eqb, List, [], ◌∷◌, ◌++◌, get_or, length, replicate, drop, refl, ap, sym, ◌∙◌, subst, arith, inl, inr}
+use Rattle.std.proofs.Common.{◌≡◌, ◌≢◌, ℕ, zero, suc, ◌+◌, ◌-◌, ◌<◌, ◌≤◌, Bool, true, false, eqb, List, get_or, length, replicate, drop, refl, ap, sym, ◌∙◌, subst, arith, inl, inr}
 use Rattle.std.proofs.Math.ListN.{set, drop_of_length-le}
 use Rattle.std.proofs.lemmas.List.{drop_more, get_or-set_same, get_or-set_other}
 use Rattle.std.proofs.lemmas.Bool.{eq-eqb}
 use Rattle.std.proofs.lemmas.Bool.Decides.{eqb_tells}
-use Rattle.pq_base.specs.Presentation.{IsNormal}
 use Rattle.pc_presentation.specs.declared.syllable.Syllable.{Syllable}
-use Rattle.pc_presentation.specs.declared.relation.Relation.{Relation}
 use Rattle.pc_presentation.specs.declared.relation.Relation.TheVariants.{Power, Commutator}
-use Rattle.pc_presentation.specs.Syllable.{syllables_of, AreGenerators, AreLater}
-use Rattle.pc_presentation.specs.Relation.{IsRelation, side_start}
-use Rattle.pc_presentation.specs.Pcp.{TailedPresentation, IsTailedPresentation, right_side}
-use Rattle.pc_presentation.specs.Rowed.{RowedPresentation, row_sum}
-use Rattle.pc_presentation.specs.Collection.{Configuration, State, IsState, spelled, add_row, push_word, push_configuration, plain_push}
-use Rattle.pc_presentation.specs.Tailed.{Element, rowed_presentation, IsElement, with_state, cleared_after, places_of, side_with_tail}
+use Rattle.pc_presentation.specs.Pcp.{TailedPresentation, IsTailedPresentation}
+use Rattle.pc_presentation.specs.Rowed.{RowedPresentation}
+use Rattle.pc_presentation.specs.Collection.{Configuration, State, spelled, add_row, push_word, push_configuration, plain_push}
+use Rattle.pc_presentation.specs.Tailed.{Element, rowed_presentation, IsElement, with_state, places_of, side_with_tail}
 use Rattle.pc_presentation.proofs.PushLaws.{push_word-append}
+use Rattle.pc_presentation.proofs.PushesLeft.{after}
 use Rattle.pc_presentation.proofs.RowLaws.{row_sum-zeros}
 use Rattle.pc_presentation.proofs.RelationSides.{power_side-numbered, commutator_side-numbered}
 use Rattle.plain_collector.specs.Steps.{with_exponent, raised_by, raised, passed}
 use Rattle.plain_collector.proofs.PlainSteps.{cleared_state, plain_push-steps}
-
--- the element after a word
-abbrev pub after : (State → ℕ → State) → Element → List ℕ → Element
-after f e w = with_state e (push_word f e.state w)
-
-pub copies-left : (f : State → ℕ → State) (e e' : Element) (n k i : ℕ) → k < n → e' ≡ with_state e (f e.state i)
-    → after f e' (replicate (n - (k + 1)) i) ≡ after f e (replicate (n - k) i)
-copies-left f e e' n k i h q =
-    let more : suc (n - (k + 1)) ≡ n - k = omega arith in
-    ap (λ (z : Element). after f z (replicate (n - (k + 1)) i)) q ∙ ap (λ (m : ℕ). after f e (replicate m i)) more
-
-pub no_copies-left : (f : State → ℕ → State) (e : Element) (n k i : ℕ) → n ≤ k → after f e (replicate (n - k) i) ≡ e
-no_copies-left f e n k i h =
-    let none : n - k ≡ 0 = omega arith in
-    ap (λ (m : ℕ). after f e (replicate m i)) none
-
-pub spelled-left : (f : State → ℕ → State) (e e' : Element) (j times : ℕ) (xs : List ℕ) → j < length xs → times ≡ get_or xs j 0
-    → e' ≡ after f e (replicate times ((j + 1) - 1))
-    → after f e' (spelled (j + 1) (drop (j + 1) xs)) ≡ after f e (spelled j (drop j xs))
-spelled-left f e e' j times xs h t q =
-    let place : (j + 1) - 1 ≡ j = omega arith in
-    let next : j + 1 ≡ suc j = omega arith in
-    ap (λ (z : Element). after f z (spelled (j + 1) (drop (j + 1) xs))) q
-    ∙ ap (λ (i : ℕ). with_state e (push_word f (push_word f e.state (replicate times i)) (spelled (j + 1) (drop (j + 1) xs)))) place
-    ∙ ap (λ (m : ℕ). with_state e (push_word f (push_word f e.state (replicate m j)) (spelled (j + 1) (drop (j + 1) xs)))) t
-    ∙ ap (λ (k : ℕ). with_state e (push_word f (push_word f e.state (replicate (get_or xs j 0) j)) (spelled k (drop (j + 1) xs)))) next
-    ∙ ap (with_state e) (sym (push_word-append f e.state (replicate (get_or xs j 0) j) (spelled (suc j) (drop (j + 1) xs))))
-    ∙ ap (λ (w : List ℕ). after f e (spelled j w)) (sym (drop_more xs j 0 h))
 
 pub syllables-left : (f : State → ℕ → State) (e e' : Element) (k : ℕ) (w : List Syllable) (d : Syllable) → k < length w
     → e' ≡ after f e (replicate (get_or w k d).exponent ((get_or w k d).generator - 1))

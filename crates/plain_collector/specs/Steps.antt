@@ -1,6 +1,6 @@
 -- A push of the plain rule on a whole state, step by step: the later exponents are set aside, the generator's own exponent
 -- is raised, and the later letters are pushed again, each followed by the right side of its commutator.
-use Rattle.std.specs.Prelude.{◌+◌, ℕ, suc, Bool, true, false, eqb, List, get_or, slice_set}
+use Rattle.std.specs.Prelude.{ℕ, suc, Bool, true, false, eqb, get_or, slice_set}
 use Rattle.pq_base.specs.Presentation.{power_side, commutator_side}
 use Rattle.pc_presentation.specs.Rowed.{RowedPresentation, power_row, commutator_row}
 use Rattle.pc_presentation.specs.Collection.{State, spelled, push_configuration, plain_push}

@@ -15,6 +15,11 @@ IsLetter-weaken m n (pos zero) l h = h
 IsLetter-weaken m n (pos (suc k)) l h = omega arith
 IsLetter-weaken m n (negsuc k) l h = omega arith
 
+pub IsLetter-get_or : (n : ℕ) (w : List ℤ) (i : ℕ) (d : ℤ) → HasLetters n w → i < length w → IsLetter n (get_or w i d)
+IsLetter-get_or n [] i d h l = absurd (omega arith)
+IsLetter-get_or n (k ∷ w) zero d h l = h.0
+IsLetter-get_or n (k ∷ w) (suc i) d h l = IsLetter-get_or n w i d h.1 (omega arith)
+
 pub HasLetters-weaken : (m n : ℕ) (w : List ℤ) → m ≤ n → HasLetters m w → HasLetters n w
 HasLetters-weaken m n [] l h = tt
 HasLetters-weaken m n (k ∷ w) l h = (IsLetter-weaken m n k l h.0, HasLetters-weaken m n w l h.1)

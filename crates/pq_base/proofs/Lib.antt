@@ -17,9 +17,9 @@ pub mod ElementarySides
 pub mod ExponentSums
 pub mod ElementaryLaws
 pub mod Generated
-pub mod ClassOneAnswer
-pub mod ClassOneUniversal
-pub mod ClassOneLargest
+pub mod UnitLaws
+pub mod LeftGenerators
+pub mod ElementaryTables
 pub mod ClassOneVectors
 pub mod SeriesLaws
 pub mod TableSeries

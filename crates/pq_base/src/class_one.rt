@@ -1,7 +1,7 @@
 //! What is proved of answers of class 1, and of the definitions of every answer. The functions do nothing: each states a
 //! law as its clause.
 ghost use Rattle.pq_base.specs.Elementary.{ElementaryIsConsistentOfClassOne};
-ghost use Rattle.pq_base.specs.ClassOne.{AnswersAreGenerated, ClassOneAnswerIsLargest};
+ghost use Rattle.pq_base.specs.ClassOne.{AnswersAreGenerated};
 
 /// The presentation of the elementary abelian group of rank n, for any number p from 1 on as its prime, is consistent and
 /// of class 1.
@@ -13,9 +13,4 @@ pub fn elementary_is_consistent_of_class_one()
 #[tactic(auto, using(crate::proofs::Generated::generated))]
 pub fn answers_are_generated()
     ensures { AnswersAreGenerated }
-{}
-
-/// Where each relator of a presentation is a generator, its answer of class one is its largest quotient of class 1.
-pub fn class_one_answer_is_largest()
-    ensures { ClassOneAnswerIsLargest }
 {}

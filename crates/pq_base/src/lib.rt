@@ -14,7 +14,7 @@ pub mod status;
 #[cfg(test)]
 mod tests;
 
-pub use name::Name;
+pub use name::{Name, names_copied};
 pub use path::Path;
 pub use prime::Prime;
 pub use refusal::NoMemory;

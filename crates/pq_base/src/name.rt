@@ -1,11 +1,13 @@
 //! The names of generators.
 
-ghost use Rattle.std.specs.Prelude.{◌≡◌, ℕ, IfSome, IfNone};
+ghost use Rattle.std.specs.Prelude.{◌≡◌, ◌≤◌, ℕ, IfOk, IfSome, IfNone, length};
 ghost use Rattle.std.specs.List.{list_all};
 ghost use Rattle.pq_base.specs.Name.{is_letter, is_name_byte, is_name_text, IsName};
 
 use crate::limits::NAME_BYTES;
+use crate::refusal::NoMemory;
 use arrayvec::ArrayVec;
+use std::alloc::Global;
 use std::marker::Model;
 
 /// A name: a letter, then letters, digits and `_`, at most 32 bytes in all. Contracts see it as the list of its bytes.
@@ -37,11 +39,9 @@ impl Name {
         if bytes.len() > NAME_BYTES || !is_name_text(bytes) {
             return None;
         }
-        let mut name = ArrayVec::new();
-        for b in bytes {
-            name.push(*b);
-        }
-        Some(Name { bytes: name })
+        Some(Name {
+            bytes: bytes_copied(bytes),
+        })
     }
 
     /// The bytes of the name.
@@ -51,6 +51,38 @@ impl Name {
     {
         self.bytes.as_slice()
     }
+
+    /// An equal name. Takes no memory.
+    pub fn duplicate(&self) -> Name
+        ensures value { result ≡ self.now }
+        ensures name { IsName result }
+    {
+        Name {
+            bytes: bytes_copied(self.bytes()),
+        }
+    }
+}
+
+/// Equal names.
+pub fn names_copied(alloc: Global, names: &[Name]) -> Result<Vec<Name>, NoMemory>
+    ensures { IfOk result (λ v. v.items ≡ names.now) }
+{
+    let mut copies = Vec::new(alloc);
+    for name in names {
+        copies.push(name.duplicate())?;
+    }
+    Ok(copies)
+}
+
+fn bytes_copied(bytes: &[u8]) -> ArrayVec<u8, 32>
+    requires { length bytes.now ≤ 32 }
+    ensures { result.items ≡ bytes.now }
+{
+    let mut copy = ArrayVec::new();
+    for b in bytes {
+        copy.push(*b);
+    }
+    copy
 }
 
 /// Whether a byte is one of `A` to `Z` or `a` to `z`.

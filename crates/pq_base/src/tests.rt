@@ -1,5 +1,5 @@
 use crate::name::{is_letter, is_name_byte, is_name_text};
-use crate::{Name, NoMemory, Path, Prime, Status, limits};
+use crate::{Name, NoMemory, Path, Prime, Status, limits, names_copied};
 
 #[test]
 fn residues_of_seven(rt: HostRuntime) {
@@ -16,11 +16,20 @@ fn residues_of_seven(rt: HostRuntime) {
 fn names(rt: HostRuntime) {
     let name = Name::of(b"x_1").unwrap();
     assert_eq!(rt; name.bytes(), b"x_1".as_slice());
+    assert!(rt; name.duplicate() == name);
     assert!(rt; Name::of(b"1x").is_none());
     assert!(rt; is_letter(b'q'));
     assert!(rt; is_name_byte(b'0'));
     assert!(rt; is_name_text(b"x12345678901234567890123456789012"));
     assert!(rt; Name::of(b"x12345678901234567890123456789012").is_none());
+}
+
+#[test]
+fn copies_of_names(rt: HostRuntime) -> Result<(), NoMemory> {
+    let names = [Name::of(b"x").unwrap(), Name::of(b"y").unwrap()];
+    let copies = names_copied(rt.alloc(), &names)?;
+    assert!(rt; copies.as_slice() == names.as_slice());
+    Ok(())
 }
 
 #[test]

@@ -2,7 +2,7 @@ use Rattle.std.proofs.Common.{◌≡◌, ℤ, neg_ℤ, [], ◌∷◌, ◌++◌, 
 use Rattle.std.proofs.lemmas.Int.{to_z-of_z}
 use Rattle.pq_base.proofs.LetterLaws.{HasLetters-append_left, HasLetters-append_right}
 use Rattle.free_words.specs.Letters.{AreLetters}
-use Rattle.free_words.proofs.LetterPlaces.{append-inv_last}
+use Rattle.free_words.proofs.LastLetters.{append-inv_last}
 use Rattle.free_words.proofs.pieces.push_inverse.Goals as goal
 
 pub inverted-requires : goal.inverted-requires

@@ -2,7 +2,7 @@ use Rattle.std.proofs.Common.{◌≡◌, ◌≤◌, ◌-◌, pos, [], get_or, ta
 use Rattle.std.proofs.lemmas.Int.{to_z-of_z}
 use Rattle.std.proofs.lemmas.List.{length-append}
 use Rattle.pq_base.specs.SignedWord.{sub, image_of, IsLetter}
-use Rattle.free_words.proofs.LetterPlaces.{IsLetter-get_or}
+use Rattle.pq_base.proofs.LetterLaws.{IsLetter-get_or}
 use Rattle.free_words.proofs.Substitutions.{sub-take_more, length-image_of}
 use Rattle.free_words.proofs.substitution.substituted_len.Goals as goal
 

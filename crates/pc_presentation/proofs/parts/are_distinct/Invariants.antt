@@ -1,4 +1,4 @@
-use Rattle.std.proofs.Common.{◌≡◌, ◌≢◌, ℕ, ◌<◌, [], length, get_or}
+use Rattle.std.proofs.Common.{◌≢◌, ℕ, ◌<◌, [], length, get_or}
 use Rattle.pc_presentation.proofs.parts.are_distinct.Given as goal
 
 -- no name so far stands again later

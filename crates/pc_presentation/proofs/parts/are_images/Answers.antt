@@ -1,6 +1,5 @@
-use Rattle.std.proofs.Common.{◌≡◌, ℕ, ◌<◌, List, [], length, get_or, ap, sym, ◌∙◌, subst, arith, inl, inr}
-use Rattle.std.proofs.lemmas.Bool.{cases_lt, true≢false, false≢true}
-use Rattle.pc_presentation.specs.declared.syllable.Syllable.{Syllable}
+use Rattle.std.proofs.Common.{◌≡◌, ℕ, [], get_or, sym, ◌∙◌, subst, arith, inl, inr}
+use Rattle.std.proofs.lemmas.Bool.{cases_lt, false≢true}
 use Rattle.pc_presentation.specs.Syllable.{AreSyllables}
 use Rattle.pc_presentation.specs.Parts.{words_of}
 use Rattle.pc_presentation.proofs.PartsLaws.{words_of-at, length-words_of}

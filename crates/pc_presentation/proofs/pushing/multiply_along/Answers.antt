@@ -2,14 +2,15 @@ use Rattle.std.proofs.Common.{◌≡◌, pos, get_or, length, FitsSigned, w32, r
 use Rattle.std.proofs.lemmas.Int.{to_z-of_z}
 use Rattle.pc_presentation.specs.Tailed.{Element, rowed_presentation, IsElement, one_of}
 use Rattle.pc_presentation.specs.ImageElements.{letter_value}
-use Rattle.pc_presentation.proofs.ValueSteps.{letter-get_or, value-element, letters-left}
+use Rattle.pq_base.proofs.LetterLaws.{IsLetter-get_or}
+use Rattle.pc_presentation.proofs.ValueSteps.{value-element, letters-left}
 use Rattle.pc_presentation.proofs.pushing.multiply_along.Goals as goal
 
 pub value_of-requires-clause-letter : goal.value_of-requires-clause-letter
 value_of-requires-clause-letter g c =
     let f : FitsSigned w32 (get_or c.args.word.now c.loop-k.k-index (pos 0)) = search rules in
     rw (to_z-of_z w32 (get_or c.args.word.now c.loop-k.k-index (pos 0)) f)
-    (letter-get_or (length c.args.images.now) c.args.word.now c.loop-k.k-index (pos 0) c.requires.letters c.loop-k-test.true)
+    (IsLetter-get_or (length c.args.images.now) c.args.word.now c.loop-k.k-index (pos 0) c.requires.letters c.loop-k-test.true)
 
 pub multiply-requires-clause-factor : goal.multiply-requires-clause-factor
 multiply-requires-clause-factor g c =
@@ -20,7 +21,7 @@ multiply-requires-clause-factor g c =
     subst (λ (e : Element). IsElement c.args.pcp.now e) (sym value)
     (value-element c.args.pcp.now (g.C.Collect.meaning (rowed_presentation c.args.pcp.now)) c.args.images.now c.args.inverses.now
     (get_or c.args.word.now c.loop-k.k-index (pos 0)) c.requires.images
-    (letter-get_or (length c.args.images.now) c.args.word.now c.loop-k.k-index (pos 0) c.requires.letters c.loop-k-test.true))
+    (IsLetter-get_or (length c.args.images.now) c.args.word.now c.loop-k.k-index (pos 0) c.requires.letters c.loop-k-test.true))
 
 pub loop-k-preserved : goal.loop-k-preserved
 loop-k-preserved g c =
@@ -32,6 +33,6 @@ loop-k-preserved g c =
       c.multiply.ensures.element,
       letters-left c.args.pcp.now (g.C.Collect.meaning (rowed_presentation c.args.pcp.now)) c.args.images.now c.args.inverses.now c.loop-k.at c.multiply.new.at
           c.value_of.result.now c.loop-k.k-index c.args.word.now (pos 0) c.loop-k-test.true
-          (letter-get_or (length c.args.images.now) c.args.word.now c.loop-k.k-index (pos 0) c.requires.letters c.loop-k-test.true) value c.multiply.ensures.product
+          (IsLetter-get_or (length c.args.images.now) c.args.word.now c.loop-k.k-index (pos 0) c.requires.letters c.loop-k-test.true) value c.multiply.ensures.product
           ∙ c.loop-k.invariant.2,
     )

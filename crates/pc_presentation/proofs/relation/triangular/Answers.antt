@@ -1,4 +1,4 @@
-use Rattle.std.proofs.Common.{subst, sym, ◌≤◌, ℕ, ◌∙◌}
+use Rattle.std.proofs.Common.{subst, sym, ◌≤◌, ℕ}
 use Rattle.pc_presentation.proofs.RelationNumbers.{triangular_half, triangular_limit}
 use Rattle.pc_presentation.proofs.relation.triangular.Goals as goal
 

@@ -1,12 +1,12 @@
 -- A push of a generator goes on with later ones alone. What is left to push decides.
-use Rattle.std.proofs.Common.{◌≡◌, ◌-◌, ◌+◌, ◌*◌, ℕ, List, get_or, replicate, drop}
+use Rattle.std.proofs.Common.{◌≡◌, ◌-◌, ◌+◌, ◌*◌, ℕ, get_or, replicate, drop}
 use Rattle.pc_presentation.specs.Syllable.{syllables_of}
 use Rattle.pc_presentation.specs.Relation.{side_start}
 use Rattle.pc_presentation.specs.Pcp.{right_side}
 use Rattle.pc_presentation.specs.Collection.{spelled, plain_push}
 use Rattle.pc_presentation.specs.Tailed.{rowed_presentation, IsElement, places_of}
 use Rattle.plain_collector.specs.Steps.{passed}
-use Rattle.plain_collector.proofs.Progress.{after}
+use Rattle.pc_presentation.proofs.PushesLeft.{after}
 use Rattle.plain_collector.proofs.steps.+plain.Given as goal
 
 abbrev pub decreases-pass : goal.decreases-pass

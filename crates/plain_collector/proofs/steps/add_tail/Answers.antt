@@ -1,4 +1,4 @@
-use Rattle.std.proofs.Common.{◌≡◌, ℕ, Option, Some, length, ap, sym, ◌∙◌, subst}
+use Rattle.std.proofs.Common.{ℕ, Option, Some, length, ap, sym, ◌∙◌, subst}
 use Rattle.pc_presentation.specs.Pcp.{unit_row, row_of}
 use Rattle.pc_presentation.specs.Collection.{add_row}
 use Rattle.pc_presentation.specs.Tailed.{Element, IsElement, with_state}

@@ -1,4 +1,4 @@
-use Rattle.std.proofs.Common.{◌<◌, ◌≤◌, ◌≡◌, length, get_or, ◌∙◌, sym, arith, refl}
+use Rattle.std.proofs.Common.{◌<◌, length, get_or, ◌∙◌, arith, refl}
 use Rattle.std.proofs.lemmas.List.{length-set}
 use Rattle.plain_collector.proofs.Progress.{zero-entries, copied-more, zeros-behind}
 use Rattle.plain_collector.proofs.steps.saved.Goals as goal

@@ -1,4 +1,4 @@
-use Rattle.std.proofs.Common.{◌≡◌, ℕ, ◌-◌, List, get_or, length, ap, sym, ◌∙◌}
+use Rattle.std.proofs.Common.{ℕ, ◌-◌, List, get_or, length, ap, sym, ◌∙◌}
 use Rattle.pc_presentation.proofs.PartsLaws.{last_or_zero-get_or}
 use Rattle.pc_presentation.proofs.answer.Answer.class.Goals as goal
 

@@ -1,4 +1,4 @@
-use Rattle.std.proofs.Common.{◌≡◌, refl}
+use Rattle.std.proofs.Common.{refl}
 use Rattle.std.proofs.lemmas.Bool.{false≢true}
 use Rattle.pc_presentation.specs.Parts.{words_of, AreParts}
 use Rattle.pc_presentation.proofs.Conditions.{AreParts-tested, AreTested-parts}

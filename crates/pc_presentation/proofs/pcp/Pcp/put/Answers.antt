@@ -1,9 +1,9 @@
-use Rattle.std.proofs.Common.{◌≡◌, ℕ, List, length, ap, sym, ◌∙◌, subst, arith}
+use Rattle.std.proofs.Common.{◌≡◌, ℕ, length, ap, sym, ◌∙◌, subst, arith}
 use Rattle.std.proofs.Math.ListN.{set}
 use Rattle.pq_base.specs.Prime.{prime_value}
 use Rattle.pc_presentation.specs.Syllable.{AreSyllables}
 use Rattle.pc_presentation.specs.Relation.{IsRelation, IsTail, side_start, relation_number}
-use Rattle.pc_presentation.specs.Store.{Entry, AreEntries}
+use Rattle.pc_presentation.specs.Store.{AreEntries}
 use Rattle.pc_presentation.specs.Pcp.{tailed_presentation}
 use Rattle.pc_presentation.proofs.PutLaws.{put_entries, put_entries-are, with_relation-tailed}
 use Rattle.pc_presentation.proofs.pcp.Pcp.put.Goals as goal

@@ -1,7 +1,5 @@
-use Rattle.std.proofs.Common.{◌≡◌, List, ◌++◌, length, ap, sym, ◌∙◌, subst, arith}
-use Rattle.std.proofs.Math.ListN.{set}
+use Rattle.std.proofs.Common.{◌≡◌, ◌++◌, length, ap, arith}
 use Rattle.pc_presentation.specs.declared.syllable.Syllable.{Syllable}
-use Rattle.pc_presentation.specs.Store.{Entry, entries_of}
 use Rattle.pc_presentation.proofs.StoreLaws.{entries_of-put}
 use Rattle.pc_presentation.proofs.store.Store.put.Goals as goal
 

@@ -1,6 +1,6 @@
 -- In a table of class 1 powers and commutators are the neutral element, so every list of elements obeys the relators of
 -- an elementary presentation; and what weights that are all 1 give.
-use Rattle.std.proofs.Common.{◌≡◌, ◌<◌, ◌≤◌, ℕ, zero, suc, ℤ, List, [], ◌∷◌, ◌++◌, replicate, refl, ap, sym, ◌∙◌, arith}
+use Rattle.std.proofs.Common.{◌≡◌, ◌<◌, ◌≤◌, ℕ, zero, suc, ℤ, List, ◌++◌, replicate, refl, ap, sym, ◌∙◌, arith}
 use Rattle.std.proofs.lemmas.List.{append-nil}
 use Rattle.pq_base.specs.SignedWord.{inv, copies, comm}
 use Rattle.pq_base.specs.Table.{Table, IsGroup, HasTableClass, AllBelow, times, power, commutator, value}
@@ -39,10 +39,6 @@ replicate-weights (suc n) = (omega arith, omega arith, replicate-weights n)
 last_or_zero-ones : (n : ℕ) → last_or_zero (replicate (suc n) 1) ≡ 1
 last_or_zero-ones zero = refl
 last_or_zero-ones (suc n) = last_or_zero-ones n
-
-pub last_or_zero-some : (n : ℕ) → 0 < n → last_or_zero (replicate n 1) ≡ 1
-last_or_zero-some zero h = absurd (omega arith)
-last_or_zero-some (suc n) h = last_or_zero-ones n
 
 pub last_or_zero-limit : (n : ℕ) → last_or_zero (replicate n 1) ≤ 1
 last_or_zero-limit zero = omega arith

@@ -5,7 +5,6 @@ ghost use Rattle.pq_base.specs.SignedWord.{copies};
 use crate::presentation::LPres;
 use crate::write;
 use free_words::{Word, WordRefusal};
-use indexmap::IndexSet;
 use pq_base::Name;
 use std::alloc::Global;
 
@@ -20,13 +19,13 @@ fn named(text: &[u8]) -> Name
     }
 }
 
-fn names(alloc: Global) -> Result<IndexSet<Name>, WordRefusal>
-    ensures { IfOk result (λ names. names.keys ≡ codes "a" ∷ codes "t" ∷ codes "u" ∷ []) }
+fn names(alloc: Global) -> Result<Vec<Name>, WordRefusal>
+    ensures { IfOk result (λ names. names.items ≡ codes "a" ∷ codes "t" ∷ codes "u" ∷ []) }
 {
-    let mut names = IndexSet::new(alloc);
-    names.insert(named(b"a"))?;
-    names.insert(named(b"t"))?;
-    names.insert(named(b"u"))?;
+    let mut names = Vec::new(alloc);
+    names.push(named(b"a"))?;
+    names.push(named(b"t"))?;
+    names.push(named(b"u"))?;
     Ok(names)
 }
 

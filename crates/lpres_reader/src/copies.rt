@@ -1,12 +1,9 @@
 //! Copies of presentations.
 
-ghost use Rattle.std.specs.Prelude.{◌≡◌, All, IfOk, map};
-ghost use Rattle.pq_base.specs.Name.{IsName};
-ghost use Rattle.pq_base.specs.LPresentation.{AreDistinct};
+ghost use Rattle.std.specs.Prelude.{◌≡◌, IfOk, map};
 
 use crate::presentation::LPres;
 use free_words::Word;
-use indexmap::IndexSet;
 use pq_base::{Name, NoMemory};
 use std::alloc::Global;
 
@@ -15,7 +12,7 @@ impl LPres {
     pub fn duplicate(&self) -> Result<LPres, NoMemory>
         ensures { IfOk result (λ p. p ≡ self.now) }
     {
-        let alloc = *self.name_set().allocator();
+        let alloc = self.allocator();
         let names = names_copied(alloc, self.names())?;
         let fixed = words_copied(alloc, self.fixed())?;
         let iterated = words_copied(alloc, self.iterated())?;
@@ -24,16 +21,14 @@ impl LPres {
     }
 }
 
-/// A set of equal names.
-fn names_copied(alloc: Global, names: &[Name]) -> Result<IndexSet<Name>, NoMemory>
-    requires { AreDistinct names.now }
-    ensures names { IfOk result (λ copies. copies.keys ≡ names.now) }
-    ensures each { IfOk result (λ copies. All IsName copies.keys) }
+/// Equal names.
+pub(crate) fn names_copied(alloc: Global, names: &[Name]) -> Result<Vec<Name>, NoMemory>
+    ensures { IfOk result (λ copies. copies.items ≡ names.now) }
 {
-    let mut copies = IndexSet::new(alloc);
+    let mut copies = Vec::new(alloc);
     for name in names {
         match Name::of(name.bytes()) {
-            Some(copy) => copies.insert(copy)?,
+            Some(copy) => copies.push(copy)?,
             None => unreachable!(),
         };
     }

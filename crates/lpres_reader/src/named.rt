@@ -47,11 +47,9 @@ impl Named {
     pub(crate) fn with_line(self, alloc: Global, line: &[u8]) -> Result<Named, Stop>
         ensures { MatchResult result (Makes (Some self) line.now) (Refuses (λ k. LineFault (Some self) line.now (kind_of k))) }
     {
-        let pres = read_behind(alloc, &self.names, self.pres, line)?;
-        Ok(Named {
-            names: self.names,
-            pres,
-        })
+        let Named { names, pres } = self;
+        let pres = read_behind(alloc, &names, pres, line)?;
+        Ok(Named { names, pres })
     }
 
     /// The presentation alone.

@@ -1,4 +1,4 @@
-use Rattle.std.proofs.Common.{◌≡◌, ◌<◌, ◌-◌, ◌^◌, ◌++◌, [], ◌∷◌, ℕ, List, All, length, map, ap, sym, subst, ◌∙◌}
+use Rattle.std.proofs.Common.{◌≡◌, ◌<◌, ◌-◌, ◌^◌, ℕ, List, All, length, map, sym, subst}
 use Rattle.pq_base.specs.LPresentation.{LPresentation}
 use Rattle.pq_base.specs.Name.{IsName}
 use Rattle.lpres_reader.specs.CanonicalText.{canonical_text}

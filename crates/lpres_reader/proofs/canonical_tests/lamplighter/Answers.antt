@@ -9,7 +9,7 @@ use Rattle.lpres_reader.proofs.canonical_tests.lamplighter.Goals as goal
 pub of_parts-requires : goal.of_parts-requires
 of_parts-requires c =
     let endos = c.in_ok-push.ensures.items ∙ ap (λ (fs : List (Vec (List ℤ))). fs ++ c.in_ok-images.field-0 ∷ []) c.new-endos.ensures.items in
-    let same = made_of-tested c.in_ok-names.names.keys c.in_ok-fixed.fixed.items c.in_ok-iterated.iterated.items c.push.new.self.items c.in_ok-images.field-0
+    let same = made_of-tested c.in_ok-names.names.items c.in_ok-fixed.fixed.items c.in_ok-iterated.iterated.items c.push.new.self.items c.in_ok-images.field-0
     c.in_ok-names.ensures c.in_ok-fixed.ensures c.in_ok-iterated.ensures endos c.in_ok-images.ensures in
     record {
       generators = subst AreGenerators (sym c.in_ok-names.ensures) tested_generators;

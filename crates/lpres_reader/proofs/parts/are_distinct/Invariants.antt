@@ -1,4 +1,4 @@
-use Rattle.std.proofs.Common.{◌≡◌, ◌≢◌, ℕ, ◌<◌, [], length, get_or, All, take}
+use Rattle.std.proofs.Common.{◌≢◌, ℕ, ◌<◌, [], length, get_or, All, take}
 use Rattle.pq_base.specs.Name.{IsName}
 use Rattle.lpres_reader.proofs.parts.are_distinct.Given as goal
 

@@ -59,7 +59,7 @@ pub mod Adding
 pub mod KeptWords
 pub mod Suffixes
 pub mod EndoPlaces
-pub mod OneNameMore
+pub mod RepeatedNames
 pub mod PartLimits
 pub mod CanonicalVectors
 pub mod RunLaws

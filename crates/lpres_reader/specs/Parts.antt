@@ -1,16 +1,11 @@
--- What parts have to keep that a presentation is made of, and what a call that makes one of them answers.
-use Rattle.std.specs.Prelude.{◌≡◌, ◌≤◌, ℕ, ◌+◌, ℤ, List, All, sum_by, Result, Ok, Err}
+-- What parts have to keep that a presentation is made of.
+use Rattle.std.specs.Prelude.{◌≡◌, ◌≤◌, ℕ, ◌+◌, ℤ, List, All, sum_by}
 use Rattle.pq_base.specs.LPresentation.{LPresentation, IsLPresentation, AreWords, AreEndos}
-use Rattle.lpres_reader.specs.declared.parts.PartsRefusal.{PartsRefusal}
-use Rattle.lpres_reader.specs.declared.parts.PartsRefusal.TheVariants.{Broken, NoMemory}
 use Rattle.lpres_reader.specs.Limits.{AreShort, letters_in, IsWithinLimits}
 
--- the presentation of these parts, where they keep what a presentation keeps, else that they don't; want of memory may
--- come in place of either
-abbrev pub MadeOfParts : Result LPresentation PartsRefusal → LPresentation → Type 0
-MadeOfParts (Ok p) L = (p ≡ L) × IsLPresentation L × IsWithinLimits L
-MadeOfParts (Err Broken) L = ¬ (IsLPresentation L × IsWithinLimits L)
-MadeOfParts (Err NoMemory) L = Unit {0}
+-- what a presentation is that is held
+abbrev pub IsPresentationWithinLimits : LPresentation → Type 0
+IsPresentationWithinLimits L = IsLPresentation L × IsWithinLimits L
 
 -- as many generators, relators and endomorphisms as a presentation may have
 pub record AreFew (n f i e : ℕ) : Type 0 where

@@ -9,7 +9,6 @@ ghost use Rattle.lpres_reader.specs.CanonicalText.{preceded, separated, name_tex
 
 use crate::presentation::LPres;
 use free_words::Word;
-use indexmap::IndexSet;
 use pq_base::{Name, NoMemory};
 use std::alloc::Global;
 
@@ -28,8 +27,8 @@ pub fn write(alloc: Global, pres: &LPres) -> Result<Vec<u8>, NoMemory>
     ensures short { IfOk result (λ text. length text.items < 2 ^ 32 - 1) }
 {
     let mut out = Vec::new(alloc);
-    push_generators(&mut out, pres.name_set())?;
     let names = pres.names();
+    push_generators(&mut out, names)?;
     push_relators(&mut out, b"fixed ", names, pres.fixed())?;
     push_relators(&mut out, b"iterated ", names, pres.iterated())?;
     push_endos(&mut out, names, pres.endos())?;
@@ -37,11 +36,11 @@ pub fn write(alloc: Global, pres: &LPres) -> Result<Vec<u8>, NoMemory>
 }
 
 /// The line of the generators.
-fn push_generators(out: &mut Vec<u8>, names: &IndexSet<Name>) -> Result<(), NoMemory>
-    ensures { OnOk result (out.new.items ≡ out.old.items ++ (generators_line names.now.keys ++ 10 ∷ [])) }
+fn push_generators(out: &mut Vec<u8>, names: &[Name]) -> Result<(), NoMemory>
+    ensures { OnOk result (out.new.items ≡ out.old.items ++ (generators_line names.now ++ 10 ∷ [])) }
 {
     out.extend_from_slice(b"generators")?;
-    for name in names.as_slice() {
+    for name in names {
         out.push(b' ')?;
         out.extend_from_slice(name.bytes())?;
     }

@@ -1,13 +1,10 @@
 //! Copies of presentations.
 
-ghost use Rattle.std.specs.Prelude.{◌≡◌, All, IfOk, map};
-ghost use Rattle.pq_base.specs.Name.{IsName};
-ghost use Rattle.pq_base.specs.LPresentation.{AreDistinct};
+ghost use Rattle.std.specs.Prelude.{◌≡◌, IfOk, map};
 
 use crate::presentation::LPres;
 use free_words::Word;
-use indexmap::IndexSet;
-use pq_base::{Name, NoMemory};
+use pq_base::{NoMemory, names_copied};
 use std::alloc::Global;
 
 impl LPres {
@@ -15,26 +12,13 @@ impl LPres {
     pub fn duplicate(&self) -> Result<LPres, NoMemory>
         ensures { IfOk result (λ p. p ≡ self.now) }
     {
-        let alloc = *self.name_set().allocator();
+        let alloc = self.allocator();
         let names = names_copied(alloc, self.names())?;
         let fixed = words_copied(alloc, self.fixed())?;
         let iterated = words_copied(alloc, self.iterated())?;
         let endos = endos_copied(alloc, self.endos())?;
         Ok(LPres::of_parts(names, fixed, iterated, endos))
     }
-}
-
-/// A set of equal names.
-fn names_copied(alloc: Global, names: &[Name]) -> Result<IndexSet<Name>, NoMemory>
-    requires { AreDistinct names.now }
-    ensures names { IfOk result (λ copies. copies.keys ≡ names.now) }
-    ensures each { IfOk result (λ copies. All IsName copies.keys) }
-{
-    let mut copies = IndexSet::new(alloc);
-    for name in names {
-        copies.insert(name.duplicate())?;
-    }
-    Ok(copies)
 }
 
 /// Equal words.

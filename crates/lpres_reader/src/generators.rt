@@ -14,10 +14,11 @@ ghost use Rattle.lpres_reader.specs.Stops.{Refuses, kind_of};
 
 use crate::depth::is_shallow;
 use crate::fault::{Kind, Stop, Which};
+use crate::named::Named;
 use crate::presentation::LPres;
 use crate::token::{Symbol, Token, next_name, next_token};
 use indexmap::IndexSet;
-use pq_base::Name;
+use pq_base::{Name, names_copied};
 use pq_base::limits::GENERATORS;
 use std::alloc::Global;
 
@@ -127,9 +128,11 @@ fn read_names(alloc: Global, line: &[u8]) -> Result<IndexSet<Name>, Stop>
 }
 
 /// The presentation that the first line makes, which has no relators.
-pub fn read_first(alloc: Global, line: &[u8]) -> Result<LPres, Stop>
+pub fn read_first(alloc: Global, line: &[u8]) -> Result<Named, Stop>
     ensures { MatchResult result (Makes None line.now) (Refuses (λ k. LineFault None line.now (kind_of k))) }
 {
     let names = read_names(alloc, line)?;
-    Ok(LPres::of_parts(names, Vec::new(alloc), Vec::new(alloc), Vec::new(alloc)))
+    let listed = names_copied(alloc, names.as_slice())?;
+    let pres = LPres::of_parts(listed, Vec::new(alloc), Vec::new(alloc), Vec::new(alloc));
+    Ok(Named::of(names, pres))
 }

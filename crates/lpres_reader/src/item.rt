@@ -1,6 +1,6 @@
 //! A line after the generators.
 
-ghost use Rattle.std.specs.Prelude.{◌≤◌, MatchResult, Some};
+ghost use Rattle.std.specs.Prelude.{◌≡◌, ◌≤◌, MatchResult, Some};
 ghost use Rattle.lpres_reader.specs.Faults.{LineFault};
 ghost use Rattle.lpres_reader.specs.Makes.{Makes};
 ghost use Rattle.lpres_reader.specs.Stops.{Refuses, kind_of};
@@ -71,17 +71,30 @@ fn first_arrow(alloc: Global, number: usize, total: usize) -> Result<Value, Stop
 }
 
 /// What a line gives that has the form of an item, over names that are known.
-fn read_formed(alloc: Global, pres: &LPres, line: &[u8]) -> Result<Gathered, Stop>
+fn read_formed(
+    alloc: Global,
+    names: &IndexSet<Name>,
+    pres: &LPres,
+    line: &[u8],
+) -> Result<Gathered, Stop>
+    requires generators { AreGenerators names.now.keys }
+    requires names { names.now.keys ≡ pres.now.names }
     ensures { GivesLine pres.now line.now result }
 {
     let (keyword, after) = next_name(line)?;
-    let names = pres.name_set();
     let first = first_value(alloc, pres, keyword)?;
     gather(alloc, names, first, after)
 }
 
 /// What a line gives behind others.
-pub fn read_item(alloc: Global, pres: &LPres, line: &[u8]) -> Result<Gathered, Stop>
+pub fn read_item(
+    alloc: Global,
+    names: &IndexSet<Name>,
+    pres: &LPres,
+    line: &[u8],
+) -> Result<Gathered, Stop>
+    requires generators { AreGenerators names.now.keys }
+    requires names { names.now.keys ≡ pres.now.names }
     ensures { MatchResult result (ItemRead pres.now line.now) (Refuses (λ k. LineFault (Some pres.now) line.now (kind_of k))) }
 {
     if !is_shallow(line) {
@@ -89,14 +102,21 @@ pub fn read_item(alloc: Global, pres: &LPres, line: &[u8]) -> Result<Gathered, S
     }
     check_form(alloc, line)?;
     let (_, after) = next_name(line)?;
-    check_names(pres.name_set(), after)?;
-    read_formed(alloc, pres, line)
+    check_names(names, after)?;
+    read_formed(alloc, names, pres, line)
 }
 
 /// The presentation that a line makes of the one that is before it.
-pub fn read_behind(alloc: Global, pres: LPres, line: &[u8]) -> Result<LPres, Stop>
+pub fn read_behind(
+    alloc: Global,
+    names: &IndexSet<Name>,
+    pres: LPres,
+    line: &[u8],
+) -> Result<LPres, Stop>
+    requires generators { AreGenerators names.now.keys }
+    requires names { names.now.keys ≡ pres.names }
     ensures { MatchResult result (Makes (Some pres) line.now) (Refuses (λ k. LineFault (Some pres) line.now (kind_of k))) }
 {
-    let gathered = read_item(alloc, &pres, line)?;
+    let gathered = read_item(alloc, names, &pres, line)?;
     pres.with(alloc, gathered)
 }

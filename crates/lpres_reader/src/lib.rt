@@ -16,6 +16,7 @@ mod item;
 mod known;
 pub mod laws;
 mod line;
+mod named;
 mod parts;
 #[cfg(test)]
 mod parts_tests;
@@ -32,7 +33,6 @@ mod word_along;
 
 pub use canonical::write;
 pub use fault::{Kind, TextFault, Which};
-pub use parts::PartsRefusal;
 pub use presentation::LPres;
 pub use reading::read;
 pub use refusal::ReadRefusal;

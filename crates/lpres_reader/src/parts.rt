@@ -1,61 +1,39 @@
 //! A presentation of parts that are given, where they keep what a presentation keeps.
 
-ghost use Rattle.std.specs.Prelude.{◌≡◌, ◌≤◌, All, map, IfOk, IfErr, MatchBool, MatchOption};
+ghost use Rattle.std.specs.Prelude.{◌≡◌, ◌≤◌, All, map, IfSome, IfNone, MatchBool, MatchOption};
 ghost use Rattle.pq_base.specs.Name.{IsName};
 ghost use Rattle.pq_base.specs.SignedWord.{IsLetter, HasLetters};
 ghost use Rattle.pq_base.specs.LPresentation.{AreDistinct};
-ghost use Rattle.lpres_reader.specs.declared.parts.PartsRefusal.TheVariants.{Broken, NoMemory as WantOfMemory};
-ghost use Rattle.lpres_reader.specs.Parts.{MadeOfParts, AreFew, AreKeptWords, AreKeptEndos, AreKeptRelators, HasWordLetters, HasEndoLetters, HasRelatorLetters};
+ghost use Rattle.lpres_reader.specs.Parts.{IsPresentationWithinLimits, AreFew, AreKeptWords, AreKeptEndos, AreKeptRelators, HasWordLetters, HasEndoLetters, HasRelatorLetters};
 ghost use Rattle.lpres_reader.specs.Presentations.{made_of};
 
 use crate::presentation::LPres;
 use free_words::Word;
-use indexmap::IndexSet;
 use pq_base::Name;
 use pq_base::limits::{ENDOS, FIXED, GENERATORS, ITERATED, TOTAL};
-use std::alloc::{AllocFailed, Global};
-use thiserror::Error;
-
-/// Why parts make no presentation.
-#[derive(Clone, Copy, Debug, PartialEq, Eq, Error)]
-pub enum PartsRefusal {
-    /// The parts break a condition that a presentation keeps.
-    #[error("the parts are no presentation")]
-    Broken,
-    /// Nothing could be allocated.
-    #[error("no memory")]
-    NoMemory,
-}
-
-impl<T: Drop> From<AllocFailed<T>> for PartsRefusal {
-    ghost from_gives = { λ _ e. e ≡ WantOfMemory };
-
-    fn from(_refused: AllocFailed<T>) -> PartsRefusal {
-        PartsRefusal::NoMemory
-    }
-}
 
 impl LPres {
-    /// The presentation of these parts. It is refused as `Broken` exactly where they break a condition that a presentation
-    /// keeps: names are distinct, each letter is that of a generator, each endomorphism has one image for each generator,
-    /// and no limit is passed. The parts are dropped then.
+    /// The presentation of these parts, or `None` exactly where they break a condition that a presentation keeps: names are
+    /// distinct, each letter is that of a generator, each endomorphism has one image for each generator, and no limit is
+    /// passed. The parts are dropped then. Takes no memory.
     pub fn of(
-        alloc: Global,
         names: Vec<Name>,
         fixed: Vec<Word>,
         iterated: Vec<Word>,
         endos: Vec<Vec<Word>>,
-    ) -> Result<LPres, PartsRefusal>
-        ensures { MadeOfParts result (made_of names.items fixed.items iterated.items endos.items) }
+    ) -> Option<LPres>
+        ensures some { IfSome result (λ p. p ≡ made_of names.items fixed.items iterated.items endos.items) }
+        ensures kept { IfSome result IsPresentationWithinLimits }
+        ensures none { IfNone result (¬ IsPresentationWithinLimits (made_of names.items fixed.items iterated.items endos.items)) }
     {
         let generators = names.len();
         if !are_few(generators, fixed.len(), iterated.len(), endos.len())
+            || !are_distinct(&names)
             || !are_kept(generators, &fixed, &iterated, &endos)
         {
-            return Err(PartsRefusal::Broken);
+            return None;
         }
-        let names = distinct_names(alloc, names)?;
-        Ok(LPres::of_parts(names, fixed, iterated, endos))
+        Some(LPres::of_parts(names, fixed, iterated, endos))
     }
 }
 
@@ -136,20 +114,16 @@ fn is_letter(generators: usize, k: i32) -> bool
     k != 0 && k.unsigned_abs() as usize <= generators
 }
 
-/// The names as a set, if no two of them are the same.
-fn distinct_names(alloc: Global, names: Vec<Name>) -> Result<IndexSet<Name>, PartsRefusal>
-    ensures names { IfOk result (λ set. set.keys ≡ names.items) }
-    ensures each { IfOk result (λ set. All IsName set.keys) }
-    ensures distinct { IfOk result (λ set. AreDistinct set.keys) }
-    ensures refused { IfErr result (λ e. e ≡ Broken → ¬ AreDistinct names.items) }
+/// Whether no two of the names are the same.
+fn are_distinct(names: &[Name]) -> bool
+    ensures { MatchBool result (All IsName names.now × AreDistinct names.now) (¬ AreDistinct names.now) }
 {
-    let mut distinct = IndexSet::new(alloc);
-    for name in names {
-        // says that it is a name, which the set has to keep
+    for (i, name) in names.iter().enumerate() {
+        // says that it is a name
         let _bytes = name.bytes();
-        if !distinct.insert(name)? {
-            return Err(PartsRefusal::Broken);
+        if names[i + 1..].contains(name) {
+            return false;
         }
     }
-    Ok(distinct)
+    true
 }

@@ -1,6 +1,6 @@
 ghost use Rattle.free_words.specs.Letters.{AreLetters};
 
-use crate::{LPres, PartsRefusal, along};
+use crate::{LPres, along};
 use free_words::{Word, WordRefusal};
 use pq_base::Name;
 use std::alloc::Global;
@@ -40,27 +40,24 @@ fn made(
     iterated: Vec<Word>,
     endos: Vec<Vec<Word>>,
 ) -> Result<LPres, WordRefusal> {
-    match LPres::of(alloc, names_of(alloc, letters)?, fixed, iterated, endos) {
-        Ok(pres) => Ok(pres),
-        Err(_) => Err(WordRefusal::NoMemory),
-    }
+    LPres::of(names_of(alloc, letters)?, fixed, iterated, endos).ok_or(WordRefusal::NoMemory)
 }
 
-/// Why these parts are refused.
-fn refusal(
+/// Whether these parts are refused.
+fn are_refused(
     alloc: Global,
     letters: &[u8],
     fixed: Vec<Word>,
     iterated: Vec<Word>,
     endos: Vec<Vec<Word>>,
-) -> Result<Option<PartsRefusal>, WordRefusal> {
+) -> Result<bool, WordRefusal> {
     let names = names_of(alloc, letters)?;
-    Ok(LPres::of(alloc, names, fixed, iterated, endos).err())
+    Ok(LPres::of(names, fixed, iterated, endos).is_none())
 }
 
-/// Why these names are refused.
-fn names_refusal(alloc: Global, letters: &[u8]) -> Result<Option<PartsRefusal>, WordRefusal> {
-    refusal(
+/// Whether these names are refused.
+fn are_names_refused(alloc: Global, letters: &[u8]) -> Result<bool, WordRefusal> {
+    are_refused(
         alloc,
         letters,
         Vec::new(alloc),
@@ -69,16 +66,12 @@ fn names_refusal(alloc: Global, letters: &[u8]) -> Result<Option<PartsRefusal>, 
     )
 }
 
-/// Why an endomorphism with this one image is refused.
-fn image_refusal(
-    alloc: Global,
-    letters: &[u8],
-    image: &[i32],
-) -> Result<Option<PartsRefusal>, WordRefusal>
+/// Whether an endomorphism with this one image is refused.
+fn is_image_refused(alloc: Global, letters: &[u8], image: &[i32]) -> Result<bool, WordRefusal>
     requires { AreLetters image.now }
 {
     let endos = with_endo(Vec::new(alloc), with(Vec::new(alloc), image)?)?;
-    refusal(alloc, letters, Vec::new(alloc), Vec::new(alloc), endos)
+    are_refused(alloc, letters, Vec::new(alloc), Vec::new(alloc), endos)
 }
 
 /// The lamplighter's generators, with one endomorphism.
@@ -155,32 +148,21 @@ fn equal_presentations(rt: HostRuntime) -> Result<(), WordRefusal> {
 #[test]
 fn names_that_are_no_generators(rt: HostRuntime) -> Result<(), WordRefusal> {
     let alloc = rt.alloc();
-    let broken = Some(PartsRefusal::Broken);
-    assert_eq!(rt; names_refusal(alloc, b"")?, broken);
-    assert_eq!(rt; names_refusal(alloc, b"aba")?, broken);
-    assert_eq!(rt;
-        names_refusal(alloc, b"abcdefghijklmnopqrstuvwxyzABCDEF")?,
-        None
-    );
-    assert_eq!(rt;
-        names_refusal(alloc, b"abcdefghijklmnopqrstuvwxyzABCDEFG")?,
-        broken
-    );
+    assert!(rt; are_names_refused(alloc, b"")?);
+    assert!(rt; are_names_refused(alloc, b"aba")?);
+    assert!(rt; !are_names_refused(alloc, b"abcdefghijklmnopqrstuvwxyzABCDEF")?);
+    assert!(rt; are_names_refused(alloc, b"abcdefghijklmnopqrstuvwxyzABCDEFG")?);
     Ok(())
 }
 
 #[test]
 fn words_that_are_not_over_the_generators(rt: HostRuntime) -> Result<(), WordRefusal> {
     let alloc = rt.alloc();
-    let broken = Some(PartsRefusal::Broken);
     let fixed = with(Vec::new(alloc), &[1, -2])?;
-    assert_eq!(rt;
-        refusal(alloc, b"a", fixed, Vec::new(alloc), Vec::new(alloc))?,
-        broken
-    );
-    assert_eq!(rt; image_refusal(alloc, b"a", &[1])?, None);
-    assert_eq!(rt; image_refusal(alloc, b"a", &[2])?, broken);
-    assert_eq!(rt; image_refusal(alloc, b"ab", &[1])?, broken);
+    assert!(rt; are_refused(alloc, b"a", fixed, Vec::new(alloc), Vec::new(alloc))?);
+    assert!(rt; !is_image_refused(alloc, b"a", &[1])?);
+    assert!(rt; is_image_refused(alloc, b"a", &[2])?);
+    assert!(rt; is_image_refused(alloc, b"ab", &[1])?);
     Ok(())
 }
 
@@ -191,9 +173,6 @@ fn more_relators_than_a_presentation_has(rt: HostRuntime) -> Result<(), WordRefu
     for _ in 0..4_097 {
         fixed = with(fixed, &[1])?;
     }
-    assert_eq!(rt;
-        refusal(alloc, b"a", fixed, Vec::new(alloc), Vec::new(alloc))?,
-        Some(PartsRefusal::Broken)
-    );
+    assert!(rt; are_refused(alloc, b"a", fixed, Vec::new(alloc), Vec::new(alloc))?);
     Ok(())
 }

@@ -1,6 +1,7 @@
 //! L-presentations as values.
 
-ghost use Rattle.std.specs.Prelude.{◌≡◌, ◌≤◌, [], ◌∷◌, length, map, MatchResult};
+ghost use Rattle.std.specs.Prelude.{◌≡◌, ◌≤◌, [], ◌∷◌, All, length, map, MatchResult};
+ghost use Rattle.pq_base.specs.Name.{IsName};
 ghost use Rattle.pq_base.specs.LPresentation.{LPresentation, IsLPresentation, AreEndoNumbers, AreWords, endo_at};
 ghost use Rattle.lpres_reader.specs.declared.fault.Kind.TheVariants.{NotAllImages as MissesImages};
 ghost use Rattle.lpres_reader.specs.declared.fault.Stop.TheVariants.{NoMemory as WantOfMemory};
@@ -15,7 +16,6 @@ use crate::fault::{Stop, Which};
 use crate::gathered::Gathered;
 use crate::images::images;
 use free_words::Word;
-use indexmap::IndexSet;
 use pq_base::Name;
 use std::alloc::Global;
 use std::marker::Model;
@@ -24,7 +24,7 @@ use std::marker::Model;
 /// generators. A word's letter k is the generator whose name comes at place k, counted from 1.
 #[derive(Debug, Drop)]
 pub struct LPres {
-    names: IndexSet<Name>,
+    names: Vec<Name>,
     fixed: Vec<Word>,
     iterated: Vec<Word>,
     endos: Vec<Vec<Word>>,
@@ -37,23 +37,23 @@ impl Model for LPres {
 
     ghost Value = { LPresentation };
 
-    ghost view = { λ p. made_of p.names.keys p.fixed.items p.iterated.items p.endos.items };
+    ghost view = { λ p. made_of p.names.items p.fixed.items p.iterated.items p.endos.items };
 
-    ghost invariant = { λ p. AreGenerators p.names.keys × IsLPresentation (made_of p.names.keys p.fixed.items p.iterated.items p.endos.items) × IsWithinLimits (made_of p.names.keys p.fixed.items p.iterated.items p.endos.items) };
+    ghost invariant = { λ p. AreGenerators p.names.items × IsLPresentation (made_of p.names.items p.fixed.items p.iterated.items p.endos.items) × IsWithinLimits (made_of p.names.items p.fixed.items p.iterated.items p.endos.items) };
 }
 
 impl LPres {
     /// The presentation of these parts.
     pub(crate) fn of_parts(
-        names: IndexSet<Name>,
+        names: Vec<Name>,
         fixed: Vec<Word>,
         iterated: Vec<Word>,
         endos: Vec<Vec<Word>>,
     ) -> LPres
-        requires generators { AreGenerators names.keys }
-        requires presentation { IsLPresentation (made_of names.keys fixed.items iterated.items endos.items) }
-        requires limits { IsWithinLimits (made_of names.keys fixed.items iterated.items endos.items) }
-        ensures { result ≡ made_of names.keys fixed.items iterated.items endos.items }
+        requires generators { AreGenerators names.items }
+        requires presentation { IsLPresentation (made_of names.items fixed.items iterated.items endos.items) }
+        requires limits { IsWithinLimits (made_of names.items fixed.items iterated.items endos.items) }
+        ensures { result ≡ made_of names.items fixed.items iterated.items endos.items }
     {
         LPres {
             names,
@@ -126,9 +126,15 @@ impl LPres {
         })
     }
 
+    /// Where its parts are held.
+    pub(crate) fn allocator(&self) -> Global {
+        *self.names.allocator()
+    }
+
     /// The names of the generators, in order.
     pub fn names(&self) -> &[Name]
         ensures names { result.now ≡ self.now.names }
+        ensures each { All IsName self.now.names }
         ensures presentation { IsLPresentation self.now }
         ensures limits { IsWithinLimits self.now }
     {
@@ -170,14 +176,6 @@ impl LPres {
         ensures few { result ≤ 4096 }
     {
         self.iterated.len()
-    }
-
-    /// The names of the generators, as a set.
-    pub(crate) fn name_set(&self) -> &IndexSet<Name>
-        ensures names { result.now.keys ≡ self.now.names }
-        ensures generators { AreGenerators result.now.keys }
-    {
-        &self.names
     }
 
     /// The letters of all relators and images.

@@ -12,8 +12,8 @@ ghost use Rattle.lpres_reader.specs.Verdicts.{is_generators};
 
 use crate::fault::{Kind, Stop, TextFault};
 use crate::generators::read_first;
-use crate::item::read_behind;
 use crate::line::{cut_line, is_skipped, line_count};
+use crate::named::Named;
 use crate::presentation::LPres;
 use crate::refusal::ReadRefusal;
 use crate::token::{Token, next_token};
@@ -67,7 +67,7 @@ fn refusal_at(line: u32, stop: Stop) -> ReadRefusal
 }
 
 /// What the lines so far are with one line more.
-fn read_line(alloc: Global, so_far: Option<LPres>, line: &[u8]) -> Result<Option<LPres>, Stop>
+fn read_line(alloc: Global, so_far: Option<Named>, line: &[u8]) -> Result<Option<Named>, Stop>
     ensures { MatchResult result (LeadsTo so_far line.now) (Refuses (StopsBy so_far line.now)) }
 {
     if is_skipped(line) {
@@ -75,12 +75,12 @@ fn read_line(alloc: Global, so_far: Option<LPres>, line: &[u8]) -> Result<Option
     }
     match so_far {
         None => Ok(Some(read_first(alloc, line)?)),
-        Some(pres) => Ok(Some(read_behind(alloc, pres, line)?)),
+        Some(named) => Ok(Some(named.with_line(alloc, line)?)),
     }
 }
 
 /// What all lines are together: a presentation, or nothing.
-fn read_lines(alloc: Global, text: &[u8]) -> Result<Option<LPres>, ReadRefusal>
+fn read_lines(alloc: Global, text: &[u8]) -> Result<Option<Named>, ReadRefusal>
     requires small { length text.now < 2 ^ 32 - 1 }
     requires generators { HasGenerators text.now }
     ensures { MatchResult result (λ found. MatchOption found (content_of text.now ≡ []) (Reads text.now)) (IsRefusedBy text.now) }
@@ -108,8 +108,8 @@ pub fn read(alloc: Global, text: &[u8]) -> Result<LPres, ReadRefusal>
     ensures refused { IfErr result (IsRefusedBy text.now) }
 {
     if has_generators(text) {
-        if let Some(pres) = read_lines(alloc, text)? {
-            return Ok(pres);
+        if let Some(named) = read_lines(alloc, text)? {
+            return Ok(named.into_pres());
         }
     }
     Err(no_generators(text))

@@ -1,8 +1,7 @@
-use Rattle.std.proofs.Common.{◌≡◌, ◌<◌, ◌-◌, ◌^◌, ◌++◌, [], ◌∷◌, ℕ, List, All, length, map, ap, sym, subst, ◌∙◌}
+use Rattle.std.proofs.Common.{◌≡◌, ◌<◌, ◌-◌, ◌^◌, ℕ, List, All, length, map, sym, subst}
 use Rattle.pq_base.specs.LPresentation.{LPresentation}
 use Rattle.pq_base.specs.Name.{IsName}
-use Rattle.lpres_reader.specs.CanonicalText.{generators_line, canonical_text}
-use Rattle.lpres_reader.specs.Presentations.{AreGenerators}
+use Rattle.lpres_reader.specs.CanonicalText.{canonical_text}
 use Rattle.lpres_reader.specs.Reads.{Reads}
 use Rattle.lpres_reader.proofs.CanonicalLengths.{canonical_texts_are_short}
 use Rattle.lpres_reader.proofs.CanonicalReads.{canonical_texts_read_back}
@@ -12,15 +11,12 @@ use Rattle.lpres_reader.proofs.canonical.write.Goals as goal
 pub returns : goal.returns
 returns c =
     let L : LPresentation = c.args.pres.now in
-    let generators : AreGenerators L.names = subst AreGenerators c.name_set.ensures.names c.name_set.ensures.generators in
-    let are : All IsName L.names = generators.each in
-    let first : c.push_generators.new.out.items ≡ c.new-out.result.items ++ (generators_line c.names-names.result.now ++ 10 ∷ []) =
-    c.in_ok-push_generators.ensures ∙ ap (λ (ns : List (List ℕ)). c.new-out.result.items ++ (generators_line ns ++ 10 ∷ [])) (c.name_set.ensures.names ∙ sym c.names-names.ensures.names) in
+    let are : All IsName L.names = c.names-names.ensures.each in
     let is : c.push_endos.new.out.items ≡ canonical_text L =
     canonical_text-written L c.new-out.result.items c.push_generators.new.out.items c.push_relators.new.out.items c.push_relators-2.new.out.items c.push_endos.new.out.items
     c.names-names.result.now c.fixed.result.now c.iterated.result.now (map (λ f. f.items) c.endos.result.now)
     c.names-names.ensures.names c.fixed.ensures c.iterated.ensures c.endos.ensures
-    c.new-out.ensures.items first c.in_ok-push_relators.ensures c.in_ok-push_relators-2.ensures c.in_ok-push_endos.ensures in
+    c.new-out.ensures.items c.in_ok-push_generators.ensures c.in_ok-push_relators.ensures c.in_ok-push_relators-2.ensures c.in_ok-push_endos.ensures in
     record {
       text = is;
       reads = subst (λ (t : List ℕ). Reads t L) (sym is) (canonical_texts_read_back L are c.names-names.ensures.presentation c.names-names.ensures.limits);

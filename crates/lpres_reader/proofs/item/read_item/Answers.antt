@@ -24,15 +24,15 @@ pub returns-in_err-check_names : goal.returns-in_err-check_names
 returns-in_err-check_names c =
     let p = err_from_is_err_and c.from_residual-in_err-check_names.result c.from_residual-in_err-check_names.ensures.1 in
     let shallow = c.is_shallow.ensures.shallow c.if-not-is_shallow.false in
-    let distinct = subst AreDistinct c.name_set.ensures.names c.name_set.ensures.generators.distinct in
-    let checks = subst (λ (names : List (List ℕ)). ChecksNames names c.in_ok-after.after.now (Err c.in_err-check_names.field-0.0)) c.name_set.ensures.names c.in_err-check_names.ensures in
+    let distinct = subst AreDistinct c.requires.names c.requires.generators.distinct in
+    let checks = subst (λ (names : List (List ℕ)). ChecksNames names c.in_ok-after.after.now (Err c.in_err-check_names.field-0.0)) c.requires.names c.in_err-check_names.ensures in
     rw (p.1, p.2) (unknown_fault c.args.pres.now distinct c.args.line.now c.in_ok-after.after.now c.in_ok-after.field-0-0.now c.in_ok-after.ensures c.in_err-check_names.field-0.0 shallow c.in_ok-check_form.ensures checks)
 
 pub returns : goal.returns
 returns c =
     let shallow = c.is_shallow.ensures.shallow c.if-not-is_shallow.false in
     let form = c.in_ok-check_form.ensures in
-    let distinct = subst AreDistinct c.name_set.ensures.names c.name_set.ensures.generators.distinct in
-    let checks = subst (λ (names : List (List ℕ)). ChecksNames names c.in_ok-after.after.now (Ok c.in_ok-check_names.field-0)) c.name_set.ensures.names c.in_ok-check_names.ensures in
+    let distinct = subst AreDistinct c.requires.names c.requires.generators.distinct in
+    let checks = subst (λ (names : List (List ℕ)). ChecksNames names c.in_ok-after.after.now (Ok c.in_ok-check_names.field-0)) c.requires.names c.in_ok-check_names.ensures in
     let known = known_body c.args.pres.now distinct c.args.line.now c.in_ok-after.after.now c.in_ok-after.field-0-0.now c.in_ok-after.ensures form c.in_ok-check_names.field-0 checks in
     item_answers c.args.pres.now c.args.line.now c.read_formed.result shallow form known (c.read_formed.ensures form.tree form.spelled)

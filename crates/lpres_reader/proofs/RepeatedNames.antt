@@ -1,0 +1,29 @@
+-- Whether a name of a list stands again behind its place.
+use Rattle.std.proofs.Common.{◌≡◌, ◌≢◌, ℕ, ◌+◌, ◌-◌, ◌<◌, List, [], get_or, length, drop, true, false, nat_eq, ap, sym, ◌∙◌, arith}
+use Rattle.std.proofs.lemmas.Bool.{both_ways}
+use Rattle.std.proofs.lemmas.List.{length-drop, get_or-drop, get_or_read}
+use Rattle.std.specs.Cmp.Lexicographic.{pointwise, bytes_decides}
+use Rattle.pq_base.specs.LPresentation.{AreDistinct}
+
+-- a name that stands again
+pub repeated : (names : List (List ℕ)) (i k : ℕ) (x : List ℕ) → x ≡ get_or names i x → k < length (drop (i + 1) names)
+    → ((d : List ℕ) → pointwise nat_eq (get_or (drop (i + 1) names) k d) x ≡ true) → ¬ AreDistinct names
+repeated names i k x here below same distinct =
+    let long : length (drop (i + 1) names) ≡ length names - (i + 1) = length-drop (i + 1) names in
+    distinct i (i + 1 + k) (omega arith) (omega arith)
+    (sym (get_or_read names i x (omega arith) here [])
+    ∙ sym ((bytes_decides (get_or (drop (i + 1) names) k []) x).0 (same []))
+    ∙ get_or-drop (i + 1) names k [])
+
+-- a name that doesn't stand again
+pub unrepeated : (names : List (List ℕ)) (i k : ℕ) (x : List ℕ) → x ≡ get_or names i x → i < k → k < length names
+    → ((j : ℕ) (d : List ℕ) → j < length (drop (i + 1) names) → pointwise nat_eq (get_or (drop (i + 1) names) j d) x ≡ false)
+    → get_or names i [] ≢ get_or names k []
+unrepeated names i k x here after below other same =
+    let long : length (drop (i + 1) names) ≡ length names - (i + 1) = length-drop (i + 1) names in
+    let place : i + 1 + (k - (i + 1)) ≡ k = omega arith in
+    let there : get_or (drop (i + 1) names) (k - (i + 1)) [] ≡ x =
+    get_or-drop (i + 1) names (k - (i + 1)) [] ∙ ap (λ (j : ℕ). get_or names j []) place ∙ sym same
+    ∙ sym (get_or_read names i x (omega arith) here []) in
+    both_ways (pointwise nat_eq (get_or (drop (i + 1) names) (k - (i + 1)) []) x) (other (k - (i + 1)) [] (omega arith))
+    ((bytes_decides (get_or (drop (i + 1) names) (k - (i + 1)) []) x).1 there)

@@ -19,6 +19,7 @@ mod line;
 mod parts;
 #[cfg(test)]
 mod parts_tests;
+mod plain;
 mod presentation;
 mod products;
 mod reading;

@@ -1,11 +1,11 @@
 -- Reading a line token by token gives what its tokens give.
-use Rattle.std.proofs.Common.{◌≡◌, ◌≤◌, ℕ, List, ◌∷◌, Result, Ok, Err, refl, ap, subst, ◌∙◌, arith}
-use Rattle.lpres_reader.specs.declared.fault.Kind.{Kind}
+use Rattle.std.proofs.Common.{◌≡◌, ◌≤◌, ◌<◌, ℕ, length, List, ◌∷◌, Result, Ok, Err, refl, ap, subst, ◌∙◌, arith}
 use Rattle.lpres_reader.specs.declared.fault.Stop.{Stop}
 use Rattle.lpres_reader.specs.declared.fault.Stop.TheVariants.{Fault, NoMemory}
 use Rattle.lpres_reader.specs.declared.value.Value.{Value}
 use Rattle.lpres_reader.specs.Tokens.{Token, ReadsTokens}
 use Rattle.lpres_reader.specs.Front.{Front, line_end, no_token, token_first, front_of}
+use Rattle.lpres_reader.specs.Stops.{Refuses}
 use Rattle.lpres_reader.specs.Values.{Given, followed, value_step, value_end, value_run, RunsOn, StopsAt}
 use Rattle.lpres_reader.proofs.FrontLemmas.{Follows, follows, rest_is_shorter}
 use Rattle.lpres_reader.proofs.LineTokens.{end_only, no_tokens}
@@ -36,8 +36,13 @@ runs_joined names line rest after first last next r q = record {
   within = omega (arith, r.within, q.within);
 }
 
-pub runs_to_stop : (names : List (List ℕ)) (line rest : List ℕ) (first last : Value) (k : Kind) → RunsOn names line rest first last → StopsAt names last rest k → StopsAt names first line k
-runs_to_stop names line rest first last k r stops ts d = let a = r.on ts d in a.2 ∙ stops a.0 a.1
+pub runs_shorten : (names : List (List ℕ)) (line rest : List ℕ) (first last : Value) {n : ℕ} → RunsOn names line rest first last → length line < n → length rest < n
+runs_shorten names line rest first last r short = omega (arith, r.within)
+
+pub runs_to_refused : (names : List (List ℕ)) (line rest : List ℕ) (first last : Value) → RunsOn names line rest first last → (s : Stop) → Refuses (StopsAt names last rest) s
+    → (ts : List Token) → ReadsTokens line ts → Given (Err s) (value_run names first ts)
+runs_to_refused names line rest first last r NoMemory h ts d = tt
+runs_to_refused names line rest first last r (Fault k) h ts d = let a = r.on ts d in a.2 ∙ h a.0 a.1
 
 pub runs_stopped : (names : List (List ℕ)) (line rest after : List ℕ) (first last : Value) (t : Token) (s : Stop) → RunsOn names line rest first last → front_of rest ≡ token_first t after
     → value_step names last t ≡ Err s → (ts : List Token) → ReadsTokens line ts → value_run names first ts ≡ Err s

@@ -34,10 +34,10 @@ fn gather(
     let mut so_far = first;
     let mut rest = line;
     while let Some((token, after)) = next_token(rest)? {
-        let next = step(alloc, names, so_far, token)?;
-        let (next, after) = plain_steps(names, next, after)?;
+        let stepped = step(alloc, names, so_far, token)?;
+        let (next, left) = plain_steps(names, stepped, after)?;
         so_far = next;
-        rest = after;
+        rest = left;
     }
     end(alloc, so_far)
 }

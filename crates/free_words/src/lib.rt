@@ -11,7 +11,7 @@ pub mod substitution;
 mod tests;
 pub mod word;
 
-pub use operations::{commutator, conjugate, extended, inverse, power, product};
+pub use operations::{commutator, conjugate, extended, extended_by, inverse, power, product};
 pub use reduction::reduce_free;
 pub use refusal::WordRefusal;
 pub use substitution::substitute;

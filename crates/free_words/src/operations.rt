@@ -1,8 +1,8 @@
 //! Products, inverses, powers, commutators and conjugates of words. Where the word would have more than 65,536 letters
 //! it is refused as `TooLong` with its length, before memory is taken for it.
 
-ghost use Rattle.std.specs.Prelude.{◌≡◌, ◌++◌, IfOk, OnOk};
-ghost use Rattle.pq_base.specs.SignedWord.{inv, pow, comm, conj};
+ghost use Rattle.std.specs.Prelude.{◌≡◌, [], ◌∷◌, ◌++◌, IfOk, OnOk};
+ghost use Rattle.pq_base.specs.SignedWord.{inv, pow, comm, conj, IsLetter};
 ghost use Rattle.free_words.specs.Gives.{Gives};
 
 use crate::pieces::{push_copies, push_inverse};
@@ -30,6 +30,17 @@ pub fn extended(u: Word, v: &Word) -> Result<Word, WordRefusal>
     let more = v.letters();
     check_length((letters.len() + more.len()) as u64)?;
     letters.extend_from_slice(more)?;
+    Ok(Word::from_vec(letters))
+}
+
+/// The same with one letter.
+pub fn extended_by(u: Word, letter: i32) -> Result<Word, WordRefusal>
+    requires { IsLetter 2147483647 letter }
+    ensures { Gives result (u ++ letter ∷ []) }
+{
+    let mut letters = u.into_vec();
+    check_length(letters.len() as u64 + 1)?;
+    letters.push(letter)?;
     Ok(Word::from_vec(letters))
 }
 

@@ -1,6 +1,6 @@
 use crate::{
-    Word, WordRefusal, commutator, conjugate, extended, inverse, power, product, reduce_free,
-    substitute,
+    Word, WordRefusal, commutator, conjugate, extended, extended_by, inverse, power, product,
+    reduce_free, substitute,
 };
 
 #[test]
@@ -29,6 +29,19 @@ fn words_that_grow(rt: HostRuntime) -> Result<(), WordRefusal> {
     assert_eq!(rt;
         extended(most, &w).err(),
         Some(WordRefusal::TooLong(65_540))
+    );
+    Ok(())
+}
+
+#[test]
+fn words_that_grow_by_a_letter(rt: HostRuntime) -> Result<(), WordRefusal> {
+    let alloc = rt.alloc();
+    let w = extended_by(Word::of(alloc, &[1])?, -2)?;
+    assert_eq!(rt; w.letters(), [1, -2].as_slice());
+    let most = extended_by(power(alloc, &Word::of(alloc, &[1])?, 65_535)?, 2)?;
+    assert_eq!(rt;
+        extended_by(most, 1).err(),
+        Some(WordRefusal::TooLong(65_537))
     );
     Ok(())
 }

@@ -42,6 +42,7 @@ pub mod FormRuns
 pub mod Tried
 pub mod Depths
 pub mod ValueRuns
+pub mod PlainRuns
 pub mod GatheredSteps
 pub mod StateTrials
 pub mod ValueSteps

@@ -1,20 +1,17 @@
 -- Reading a line token by token gives what its tokens give.
-use Rattle.std.proofs.Common.{◌≡◌, ℕ, List, ◌∷◌, Result, Ok, Err, refl, ap, subst, ◌∙◌}
+use Rattle.std.proofs.Common.{◌≡◌, ◌≤◌, ◌<◌, ℕ, length, List, ◌∷◌, Result, Ok, Err, refl, ap, subst, ◌∙◌, arith}
 use Rattle.lpres_reader.specs.declared.fault.Stop.{Stop}
 use Rattle.lpres_reader.specs.declared.fault.Stop.TheVariants.{Fault, NoMemory}
 use Rattle.lpres_reader.specs.declared.value.Value.{Value}
 use Rattle.lpres_reader.specs.Tokens.{Token, ReadsTokens}
 use Rattle.lpres_reader.specs.Front.{Front, line_end, no_token, token_first, front_of}
-use Rattle.lpres_reader.specs.Values.{Given, followed, value_step, value_end, value_run}
-use Rattle.lpres_reader.proofs.FrontLemmas.{Follows, follows}
+use Rattle.lpres_reader.specs.Stops.{Refuses}
+use Rattle.lpres_reader.specs.Values.{Given, followed, value_step, value_end, value_run, RunsOn, StopsAt}
+use Rattle.lpres_reader.proofs.FrontLemmas.{Follows, follows, rest_is_shorter}
 use Rattle.lpres_reader.proofs.LineTokens.{end_only, no_tokens}
 
--- the tokens of the line behind the first value give what those of the rest give behind the last one
-pub record RunsOn (names : List (List ℕ)) (line rest : List ℕ) (first last : Value) : Type 0 where
-  pub on : (ts : List Token) → ReadsTokens line ts → (us : List Token) × ReadsTokens rest us × (value_run names first ts ≡ value_run names last us)
-
 pub runs_first : (names : List (List ℕ)) (line : List ℕ) (first : Value) → RunsOn names line line first first
-runs_first names line first = record { on = λ ts d. (ts, d, refl) }
+runs_first names line first = record { on = λ ts d. (ts, d, refl); within = omega arith }
 
 -- the rest of a line with a token at its front
 rest_is : (rest after : List ℕ) (t : Token) (us : List Token) → front_of rest ≡ token_first t after → ReadsTokens rest us → (vs : List Token) × (us ≡ t ∷ vs) × ReadsTokens after vs
@@ -27,7 +24,25 @@ runs_next names line rest after first last next t r front e = record {
       let a = r.on ts d in
       let b = rest_is rest after t a.0 front a.1 in
       (b.0, b.2, a.2 ∙ ap (value_run names last) b.1 ∙ ap (λ (x : Result Value Stop). followed x (λ n. value_run names n b.0)) e);
+  within = let shorter = rest_is_shorter rest after t front in omega (arith, r.within);
 }
+
+pub runs_joined : (names : List (List ℕ)) (line rest after : List ℕ) (first last next : Value) → RunsOn names line rest first last → RunsOn names rest after last next → RunsOn names line after first next
+runs_joined names line rest after first last next r q = record {
+  on = λ ts d.
+      let a = r.on ts d in
+      let b = q.on a.0 a.1 in
+      (b.0, b.1, a.2 ∙ b.2);
+  within = omega (arith, r.within, q.within);
+}
+
+pub runs_shorten : (names : List (List ℕ)) (line rest : List ℕ) (first last : Value) {n : ℕ} → RunsOn names line rest first last → length line < n → length rest < n
+runs_shorten names line rest first last r short = omega (arith, r.within)
+
+pub runs_to_refused : (names : List (List ℕ)) (line rest : List ℕ) (first last : Value) → RunsOn names line rest first last → (s : Stop) → Refuses (StopsAt names last rest) s
+    → (ts : List Token) → ReadsTokens line ts → Given (Err s) (value_run names first ts)
+runs_to_refused names line rest first last r NoMemory h ts d = tt
+runs_to_refused names line rest first last r (Fault k) h ts d = let a = r.on ts d in a.2 ∙ h a.0 a.1
 
 pub runs_stopped : (names : List (List ℕ)) (line rest after : List ℕ) (first last : Value) (t : Token) (s : Stop) → RunsOn names line rest first last → front_of rest ≡ token_first t after
     → value_step names last t ≡ Err s → (ts : List Token) → ReadsTokens line ts → value_run names first ts ≡ Err s

@@ -30,3 +30,4 @@ pub mod Parts
 pub mod Along
 pub mod Runs
 pub mod CanonicalText
+pub mod PlainFactors

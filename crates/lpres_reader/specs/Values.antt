@@ -1,9 +1,10 @@
 -- What a line means, token by token, as the reader takes it: each token gives what is meant so far or stops the line at a
 -- syntax fault or a limit. That this is what the trees of a line mean is proved.
-use Rattle.std.specs.Prelude.{◌≡◌, ℕ, ◌+◌, min, ltb, leb, Bool, true, false, ℤ, List, [], ◌∷◌, ◌++◌, length, codes, bytes_eq, if◌then◌else◌, Option, Some, None, Result, Ok, Err}
+use Rattle.std.specs.Prelude.{◌≡◌, ◌≤◌, ℕ, ◌+◌, min, ltb, leb, Bool, true, false, ℤ, List, [], ◌∷◌, ◌++◌, length, codes, bytes_eq, if◌then◌else◌, Option, Some, None, Result, Ok, Err}
 use Rattle.pq_base.specs.SignedWord.{inv, pow, comm, conj}
 use Rattle.lpres_reader.specs.declared.fault.Stop.{Stop}
 use Rattle.lpres_reader.specs.declared.fault.Stop.TheVariants.{Fault, NoMemory}
+use Rattle.lpres_reader.specs.declared.fault.Kind.{Kind}
 use Rattle.lpres_reader.specs.declared.fault.Kind.TheVariants.{Syntax, Limit}
 use Rattle.lpres_reader.specs.declared.fault.Which.{Which}
 use Rattle.lpres_reader.specs.declared.fault.Which.TheVariants.{Exponent, Letters, Total}
@@ -208,3 +209,19 @@ value_run names v (t ∷ ts) = followed (value_step names v t) (λ next. value_r
 -- what a call answers that reads the tokens of a line behind what is meant so far
 abbrev pub RunsTo : List (List ℕ) → Value → List ℕ → Result Gathering Stop → Type 0
 RunsTo names v line result = (ts : List Token) → ReadsTokens line ts → Given result (value_run names v ts)
+
+-- the tokens of the line behind the first value give what those of the rest give behind the last one
+pub record RunsOn (names : List (List ℕ)) (line rest : List ℕ) (first last : Value) : Type 0 where
+  pub on : (ts : List Token) → ReadsTokens line ts → (us : List Token) × ReadsTokens rest us × (value_run names first ts ≡ value_run names last us)
+  pub within : length rest ≤ length line
+
+-- what is meant so far stops the line at this fault
+abbrev pub StopsAt : List (List ℕ) → Value → List ℕ → Kind → Type 0
+StopsAt names first line k = (ts : List Token) → ReadsTokens line ts → value_run names first ts ≡ Err (Fault k)
+
+-- the product of factors goes over to another one and leaves the rest of the line, whatever is around it
+abbrev pub FactorsRunOn : List (List ℕ) → List ℕ → List ℕ → List ℤ → List ℤ → Type 0
+FactorsRunOn names line rest before w = (a : Around) → RunsOn names line rest (value (Before before) a) (value (Before w) a)
+
+abbrev pub FactorsStopAt : List (List ℕ) → List ℤ → List ℕ → Kind → Type 0
+FactorsStopAt names before line k = (a : Around) → StopsAt names (value (Before before) a) line k

@@ -15,7 +15,7 @@ use crate::known::check_names;
 use crate::presentation::LPres;
 use crate::syntax::check_form;
 use crate::token::{next_name, next_token};
-use crate::value::{Value, at_arrows, at_relators, end, step};
+use crate::value::{Value, at_arrows, at_relators, end, plain_steps, step};
 use indexmap::IndexSet;
 use pq_base::Name;
 use pq_base::limits::ENDOS;
@@ -34,8 +34,10 @@ fn gather(
     let mut so_far = first;
     let mut rest = line;
     while let Some((token, after)) = next_token(rest)? {
-        so_far = step(alloc, names, so_far, token)?;
-        rest = after;
+        let stepped = step(alloc, names, so_far, token)?;
+        let (next, left) = plain_steps(names, stepped, after)?;
+        so_far = next;
+        rest = left;
     }
     end(alloc, so_far)
 }

@@ -20,6 +20,7 @@ mod named;
 mod parts;
 #[cfg(test)]
 mod parts_tests;
+mod plain;
 mod presentation;
 mod products;
 mod reading;

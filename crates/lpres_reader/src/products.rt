@@ -1,13 +1,13 @@
 //! The words that parts of a line make. Where one is too long, the line stops with its letters.
 
-ghost use Rattle.std.specs.Prelude.{◌≡◌, ◌<◌, ◌++◌, IfSome, Ok};
+ghost use Rattle.std.specs.Prelude.{◌≡◌, ◌<◌, ◌++◌, IfSome, Some, Ok};
 ghost use Rattle.pq_base.specs.SignedWord.{inv, comm, conj};
 ghost use Rattle.lpres_reader.specs.Trees.{letter_at};
 ghost use Rattle.lpres_reader.specs.Values.{Given, fits, raised, signed};
 
 use crate::exponent::size_of;
 use crate::fault::{Kind, Stop, Which};
-use free_words::{Word, commutator, conjugate, extended, inverse, power, product};
+use free_words::{Word, commutator, conjugate, extended, extended_by, inverse, power, product};
 use pq_base::limits::EXPONENT;
 use std::alloc::Global;
 
@@ -27,6 +27,14 @@ pub(crate) fn joined(before: Word, factor: &Word) -> Result<Word, Stop>
     ensures { Given result (fits (before ++ factor.now)) }
 {
     Ok(extended(before, factor)?)
+}
+
+/// The product of factors so far with the generator at a place, counted from 0, which grows in place.
+pub(crate) fn joined_letter(before: Word, place: usize) -> Result<Word, Stop>
+    requires { place < 32 }
+    ensures { Given result (fits (before ++ letter_at (Some place))) }
+{
+    Ok(extended_by(before, place as i32 + 1)?)
 }
 
 /// The product of factors so far with the last one, in no more memory than its letters take.

@@ -5,11 +5,13 @@ ghost use Rattle.lpres_reader.specs.declared.fault.Stop.TheVariants.{NoMemory as
 ghost use Rattle.lpres_reader.specs.declared.token.Symbol.TheVariants.{Equals};
 ghost use Rattle.lpres_reader.specs.Front.{token_of};
 ghost use Rattle.lpres_reader.specs.Presentations.{AreGenerators};
-ghost use Rattle.lpres_reader.specs.Values.{Given, no_form, value, behind_unit, entered, relator, with_bracket, unit_step, relators_step, arrows_step, outer_step, round_step, square_step, bracket_step, word_step, behind_step, factor_step, exponent_step, minus_step, start_step, from_step, value_step, at_relators, at_arrows, stack_end, value_end};
+ghost use Rattle.lpres_reader.specs.Values.{Given, no_form, value, behind_unit, entered, relator, with_bracket, unit_step, relators_step, arrows_step, outer_step, round_step, square_step, bracket_step, word_step, behind_step, factor_step, exponent_step, minus_step, start_step, from_step, value_step, at_relators, at_arrows, stack_end, value_end, RunsOn, StopsAt};
+ghost use Rattle.lpres_reader.specs.Stops.{Refuses};
 
 use crate::fault::{Kind, Stop};
 use crate::gathered::Gathered;
 use crate::known::place_of;
+use crate::plain::with_plain_factors;
 use crate::products::{commuted, conjugated, equated, joined, joined_last, letter, raised};
 use crate::token::{Symbol, Token};
 use free_words::Word;
@@ -506,6 +508,25 @@ pub(crate) fn step(
         Stage::Caret(before, base) => exponent_step(alloc, names, around, before, base, token),
         Stage::Minus(before, base) => minus_step(alloc, around, before, base, token),
         Stage::Behind(before, factor) => behind_step(alloc, around, before, factor, token),
+    }
+}
+
+/// What is meant with the plain factors that come next, and what is left of the line.
+pub(crate) fn plain_steps<'a>(
+    names: &IndexSet<Name>,
+    so_far: Value,
+    line: &'a [u8],
+) -> Result<(Value, &'a [u8]), Stop>
+    requires { AreGenerators names.now.keys }
+    ensures { MatchResult result (λ found. RunsOn names.now.keys line.now found.1.now so_far found.0) (Refuses (StopsAt names.now.keys so_far line.now)) }
+{
+    let Value { stage, around } = so_far;
+    match stage {
+        Stage::Before(before) => {
+            let (word, rest) = with_plain_factors(names, before, line)?;
+            Ok((value_at(Stage::Before(word), around), rest))
+        }
+        stage => Ok((value_at(stage, around), line)),
     }
 }
 

@@ -1,5 +1,5 @@
 use Rattle.std.proofs.Common.{length}
-use Rattle.lpres_reader.proofs.ValueRuns.{RunsOn}
+use Rattle.lpres_reader.specs.Values.{RunsOn}
 use Rattle.lpres_reader.proofs.item.gather.Given as goal
 
 abbrev pub invariant-loop-so_far : goal.invariant-loop-so_far

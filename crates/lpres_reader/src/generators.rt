@@ -18,8 +18,8 @@ use crate::named::Named;
 use crate::presentation::LPres;
 use crate::token::{Symbol, Token, next_name, next_token};
 use indexmap::IndexSet;
-use pq_base::{Name, names_copied};
 use pq_base::limits::GENERATORS;
+use pq_base::{Name, names_copied};
 use std::alloc::Global;
 
 /// The name behind a symbol, which has to be a comma, and what is behind that name.

@@ -1,6 +1,5 @@
 -- A plain factor is taken as the steps of its two tokens take it.
 use Rattle.std.proofs.Common.{◌≡◌, ◌++◌, ◌<◌, ℕ, ℤ, List, length, Option, Some, Result, Ok, Err, ap, sym, subst, arith}
-use Rattle.lpres_reader.specs.declared.fault.Kind.{Kind}
 use Rattle.lpres_reader.specs.declared.fault.Stop.{Stop}
 use Rattle.lpres_reader.specs.declared.fault.Stop.TheVariants.{Fault, NoMemory}
 use Rattle.lpres_reader.specs.declared.token.Symbol.TheVariants.{Star}
@@ -9,7 +8,7 @@ use Rattle.lpres_reader.specs.declared.value.Stage.TheVariants.{Before, Behind}
 use Rattle.lpres_reader.specs.declared.value.Around.{Around}
 use Rattle.lpres_reader.specs.declared.value.Value.{Value}
 use Rattle.lpres_reader.specs.Tokens.{name, symbol}
-use Rattle.lpres_reader.specs.Trees.{place_of, letter_at}
+use Rattle.lpres_reader.specs.Trees.{letter_at}
 use Rattle.lpres_reader.specs.Stops.{Refuses}
 use Rattle.lpres_reader.specs.Values.{Given, followed, fits, value, value_step, RunsOn, StopsAt, FactorsRunOn, FactorsStopAt}
 use Rattle.lpres_reader.specs.PlainFactors.{BeginsPlainly}

@@ -1,5 +1,5 @@
 -- Reading a line token by token gives what its tokens give.
-use Rattle.std.proofs.Common.{◌≡◌, ◌≤◌, ◌<◌, ℕ, length, List, ◌∷◌, Result, Ok, Err, refl, ap, subst, ◌∙◌, arith}
+use Rattle.std.proofs.Common.{◌≡◌, ◌<◌, ℕ, length, List, ◌∷◌, Result, Ok, Err, refl, ap, subst, ◌∙◌, arith}
 use Rattle.lpres_reader.specs.declared.fault.Stop.{Stop}
 use Rattle.lpres_reader.specs.declared.fault.Stop.TheVariants.{Fault, NoMemory}
 use Rattle.lpres_reader.specs.declared.value.Value.{Value}

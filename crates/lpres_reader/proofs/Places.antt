@@ -1,9 +1,6 @@
 -- The place of a name among names that differ is the one at which it stands.
-use Rattle.std.proofs.Common.{◌≡◌, ◌≢◌, ℕ, ◌<◌, List, [], length, get_or, Option, Some, None, refl, sym, ap, subst, ◌∙◌, inl, inr}
+use Rattle.std.proofs.Common.{◌≡◌, ◌≢◌, ℕ, ◌<◌, List, [], length, get_or, Option, Some, None, refl, sym, ap, ◌∙◌, inl, inr}
 use Rattle.std.proofs.lemmas.Bool.{cases_order}
-use Rattle.std.specs.List.{All}
-use Rattle.std.proofs.lemmas.List.Elements.{All-get_or}
-use Rattle.pq_base.specs.Name.{IsName}
 use Rattle.pq_base.specs.LPresentation.{AreDistinct}
 use Rattle.lpres_reader.specs.Trees.{place_of}
 use Rattle.lpres_reader.proofs.KeptNames.{place_found, place_missing}
@@ -31,13 +28,3 @@ place_of-known names n k distinct short is = by (place_of names n) refl
     by (Some j) e =
         let at = place_of-Some names n j e in
         ap (λ (i : ℕ). Some i) (place_unique names j k distinct at.0 short (at.1 ∙ sym is))
-
--- what is no name is no generator's
-pub place_of-no_name : (names : List (List ℕ)) (n : List ℕ) → All IsName names → ¬ IsName n → place_of names n ≡ None
-place_of-no_name names n each no_name = by (place_of names n) refl
-  where
-    by : (o : Option ℕ) → place_of names n ≡ o → o ≡ None
-    by None e = refl
-    by (Some k) e =
-        let at = place_of-Some names n k e in
-        absurd (no_name (subst IsName at.1 (All-get_or IsName names k [] at.0 each)))

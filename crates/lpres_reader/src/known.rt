@@ -17,10 +17,10 @@ pub(crate) fn place_of(names: &IndexSet<Name>, text: &[u8]) -> Option<usize>
     ensures place { result ≡ place_of names.now.keys text.now }
     ensures within { IfSome result (λ k. k < 32) }
 {
-    match Name::of(text) {
-        None => None,
-        Some(name) => names.get_index_of(&name),
-    }
+    names
+        .as_slice()
+        .iter()
+        .position(|name| text == name.bytes())
 }
 
 /// Whether a token is no name, or that of a generator.

@@ -9,4 +9,4 @@ loop-i-preserved c =
     let prime = c.prime.ensures in
     let below : c.residue.result < c.args.pcp.now.presentation.prime = omega arith in
     subst (λ (e : Element). IsElement c.args.pcp.now e) (sym c.set_exponent.ensures)
-        (set-element c.args.pcp.now c.loop-i.at c.loop-i.invariant ((c.loop-i.i + 1) - 1) c.residue.result below)
+    (set-element c.args.pcp.now c.loop-i.at c.loop-i.invariant ((c.loop-i.i + 1) - 1) c.residue.result below)

@@ -53,6 +53,23 @@ basis() {
     echo "basis: 2,000 rows of width 2,000 modulo 3 in $(seconds "$measured" basis 2000) s, peak $(kilobytes "$measured" basis 2000) kB (rows and coefficients are 7,813 kB)"
 }
 
+# per_second COUNT SECONDS
+per_second() {
+    awk -v n="$1" -v s="$2" 'BEGIN { printf "%.0f\n", n / (s > 0.005 ? s : 0.005) }'
+}
+
+products() {
+    rustc -O -o "$work/products" bench/products.rs
+    for group in "8 3" "14 2"; do
+        # shellcheck disable=SC2086
+        set -- $group
+        ours=$(seconds "$measured" products "$1" "$2" 20000)
+        theirs=$(seconds "$work/products" "$1" "$2" 20000)
+        echo "products: unitriangular matrices of size $1 modulo $2, $(per_second 20000 "$ours") a second, rustc -O $(per_second 20000 "$theirs") a second, ratio $(ratio "$ours" "$theirs")"
+    done
+}
+
 reader
 rows
 basis
+products

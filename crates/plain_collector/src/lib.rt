@@ -3,6 +3,8 @@
 #![tactic(auto)]
 
 #[cfg(test)]
+mod arithmetic_tests;
+#[cfg(test)]
 mod by_definition;
 pub mod plain;
 #[cfg(test)]

@@ -2,9 +2,10 @@ ghost use Rattle.pc_presentation.specs.Tailed.{IsElement};
 
 use crate::Plain;
 use fp_rows::Row;
-use pc_presentation::overlap::{left_way, right_way};
-use pc_presentation::{Collect, Elem, Overlap, Pcp, PcpBuilder, Relation, Syllable};
-use pq_base::{NoMemory, Prime};
+use pc_presentation::{
+    Collect, Elem, Overlap, Pcp, PcpBuilder, Relation, Scratch, Syllable, two_ways,
+};
+use pq_base::Prime;
 use std::alloc::Global;
 use std::process::Abort;
 use std::test::Fail;
@@ -17,7 +18,7 @@ fn generator(generator: u16) -> Syllable {
 }
 
 /// The dihedral group of order 16.
-fn dihedral(alloc: Global) -> Result<Pcp, Fail> {
+pub(crate) fn dihedral(alloc: Global) -> Result<Pcp, Fail> {
     let mut builder = PcpBuilder::new(alloc, Prime::P2, &[1, 1, 2, 3], 0)?;
     builder.relation(Relation::Power(3), &[generator(4)], None)?;
     builder.relation(Relation::Commutator(2, 1), &[generator(3)], None)?;
@@ -62,21 +63,6 @@ pub(crate) fn push_checked(
     plain.push(pcp, at, generator);
 }
 
-#[test]
-fn products_of_the_dihedral_group(rt: HostRuntime) -> Result<(), Fail> {
-    let pcp = dihedral(rt.alloc())?;
-    let mut plain = Plain::fresh(rt.alloc(), &pcp)?;
-    let mut at = Elem::one(rt.alloc(), &pcp)?;
-    push_checked(&rt, &mut plain, &pcp, &mut at, 2);
-    push_checked(&rt, &mut plain, &pcp, &mut at, 1);
-    assert_eq!(rt; at.exponents(), [1, 1, 1, 0].as_slice());
-    let mut at = Elem::one(rt.alloc(), &pcp)?;
-    push_checked(&rt, &mut plain, &pcp, &mut at, 3);
-    push_checked(&rt, &mut plain, &pcp, &mut at, 2);
-    assert_eq!(rt; at.exponents(), [0, 1, 1, 1].as_slice());
-    Ok(())
-}
-
 /// The difference of two rows modulo 2.
 fn difference(left: [u8; 5], right: [u8; 5]) -> [u8; 5] {
     let mut difference = left;
@@ -86,25 +72,28 @@ fn difference(left: [u8; 5], right: [u8; 5]) -> [u8; 5] {
     difference
 }
 
-/// What both ways of an overlap of the presentation reach.
-fn both_ways(
-    rt: &impl Abort,
-    alloc: Global,
-    pcp: &Pcp,
-    overlap: Overlap,
-) -> Result<(Elem, Elem), NoMemory> {
-    assert!(rt; overlap.is_of(pcp.rank()));
-    let mut plain = Plain::fresh(alloc, pcp)?;
-    let mut left = Elem::one(alloc, pcp)?;
-    let mut right = Elem::one(alloc, pcp)?;
-    left_way(&mut plain, pcp, overlap, &mut left);
-    right_way(&mut plain, pcp, overlap, &mut right);
-    Ok((left, right))
+/// What the ways of an overlap reach: exponents, the tails of the left way, and the difference of the tails.
+#[derive(Clone, Copy)]
+struct Reached {
+    exponents: [u8; 3],
+    tails: [u8; 5],
+    difference: [u8; 5],
+}
+
+/// Whether both ways reach this.
+fn reach(s: &Scratch<Plain>, reached: Reached) -> bool {
+    let left = entries(s.left().tail());
+    let right = entries(s.right().tail());
+    s.left().exponents() == reached.exponents.as_slice()
+        && s.right().exponents() == reached.exponents.as_slice()
+        && left == reached.tails
+        && difference(left, right) == reached.difference
 }
 
 #[test]
 fn both_ways_of_the_overlaps_of_a_cover(rt: HostRuntime) -> Result<(), Fail> {
     let pcp = cover(rt.alloc())?;
+    let mut s = Scratch::<Plain>::new(rt.alloc(), &pcp)?;
     let none = [0; 5];
     let rows = [
         (Overlap::Triple(3, 2, 1), [1, 1, 0], [1, 1, 1, 0, 0], none),
@@ -128,14 +117,15 @@ fn both_ways_of_the_overlaps_of_a_cover(rt: HostRuntime) -> Result<(), Fail> {
         (Overlap::Own(2), [0, 1, 0], [0, 0, 0, 0, 1], none),
         (Overlap::Own(3), [0, 0, 1], [0, 0, 1, 0, 0], none),
     ];
-    for (overlap, exponents, tails, row) in rows {
-        let (left, right) = both_ways(&rt, rt.alloc(), &pcp, overlap)?;
-        assert_eq!(rt; left.exponents(), exponents.as_slice(), "at {overlap:?}");
-        assert_eq!(rt; right.exponents(), exponents.as_slice(), "at {overlap:?}");
-        let left_tails = entries(left.tail());
-        assert_eq!(rt; left_tails, tails, "at {overlap:?}");
-        let found = difference(left_tails, entries(right.tail()));
-        assert_eq!(rt; found, row, "at {overlap:?}");
+    for (overlap, exponents, tails, difference) in rows {
+        assert!(rt; overlap.is_of(pcp.rank()));
+        let reached = Reached {
+            exponents,
+            tails,
+            difference,
+        };
+        two_ways(&mut s, &pcp, overlap);
+        assert!(rt; reach(&s, reached), "at {overlap:?}");
     }
     Ok(())
 }

@@ -3,17 +3,21 @@
 
 mod basis;
 mod numbers;
+mod products;
 mod rows;
+mod unitriangular;
 
-use pq_base::NoMemory;
+use pc_presentation::PcpRefusal;
+use pq_base::{NoMemory, Prime};
 use std::alloc::Global;
+use std::num::TryFromIntError;
 use std::process::ExitCode;
 use std::{env, io};
 
 /// Why nothing was measured.
 #[derive(Clone, Copy, Debug, PartialEq, Eq)]
 enum Failure {
-    /// The words are `rows N` or `basis N`, with N below 2^16 for a basis.
+    /// The words are `rows N`, `basis N` with N below 2^16, or `products SIZE PRIME COUNT` with SIZE from 2 to 14.
     Words,
     /// Nothing could be allocated.
     NoMemory,
@@ -33,6 +37,21 @@ impl From<io::Error> for Failure {
     }
 }
 
+impl From<PcpRefusal> for Failure {
+    fn from(refusal: PcpRefusal) -> Failure {
+        match refusal {
+            PcpRefusal::NoMemory => Failure::NoMemory,
+            _ => Failure::Words,
+        }
+    }
+}
+
+impl From<TryFromIntError> for Failure {
+    fn from(_error: TryFromIntError) -> Failure {
+        Failure::Words
+    }
+}
+
 fn main(rt: HostRuntime) -> ExitCode {
     match measure(&rt) {
         Ok(()) => ExitCode::from(0),
@@ -44,24 +63,30 @@ fn main(rt: HostRuntime) -> ExitCode {
 
 fn measure(rt: &HostRuntime) -> Result<(), Failure> {
     let mut words = env::args(rt)?.skip(1);
-    let (Some(work), Some(count)) = (words.next(), words.next()) else {
+    let Some(work) = words.next() else {
         return Err(Failure::Words);
     };
-    let Ok(count) = count.parse::<u32>() else {
-        return Err(Failure::Words);
-    };
-    let sum = done(rt.alloc(), work.as_str(), count)?;
+    let mut numbers = Vec::new(rt.alloc());
+    for word in words {
+        let Ok(number) = word.parse::<u32>() else {
+            return Err(Failure::Words);
+        };
+        numbers.push(number).map_err(NoMemory::from)?;
+    }
+    let sum = done(rt.alloc(), work.as_str(), numbers.as_slice())?;
     println!(rt; "{sum}")?;
     Ok(())
 }
 
-fn done(alloc: Global, work: &str, count: u32) -> Result<u32, Failure> {
-    match work {
-        "rows" => Ok(rows::added(alloc, count)?),
-        "basis" => match u16::try_from(count) {
-            Ok(count) => Ok(basis::inserted(alloc, count)?),
-            Err(_) => Err(Failure::Words),
-        },
+fn done(alloc: Global, work: &str, numbers: &[u32]) -> Result<u32, Failure> {
+    match (work, numbers) {
+        ("rows", [count]) => Ok(rows::added(alloc, *count)?),
+        ("basis", [count]) => Ok(basis::inserted(alloc, u16::try_from(*count)?)?),
+        ("products", [size, prime, count]) => {
+            let prime = Prime::of(u8::try_from(*prime)?).ok_or(Failure::Words)?;
+            let pcp = unitriangular::unitriangular(alloc, u16::try_from(*size)?, prime)?;
+            Ok(products::multiplied(alloc, &pcp, *count)?)
+        }
         _ => Err(Failure::Words),
     }
 }

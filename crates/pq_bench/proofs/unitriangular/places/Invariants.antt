@@ -1,0 +1,5 @@
+use Rattle.std.proofs.Common.{◌≤◌, length}
+use Rattle.pq_bench.proofs.unitriangular.places.Given as goal
+
+abbrev pub invariant-loop-diagonal : goal.invariant-loop-diagonal
+invariant-loop-diagonal l = length l.places.items ≤ 100

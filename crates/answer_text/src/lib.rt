@@ -2,13 +2,23 @@
 //! the answer in `specs/`.
 #![tactic(auto)]
 
+pub mod fault;
 mod json_text;
 pub mod laws;
+mod line_reading;
+mod pieces;
+mod reading;
+#[cfg(test)]
+mod reading_tests;
+mod source;
 #[cfg(test)]
 mod tests;
 mod values;
+mod word_reading;
 mod words;
 mod writing;
 
+pub use fault::AnswerFault;
 pub use json_text::json;
+pub use reading::read_answer;
 pub use writing::text;

@@ -1,0 +1,200 @@
+//! Reading an answer's text, a line at a time.
+
+ghost use Rattle.std.specs.Prelude.{◌≡◌, ◌<◌, ◌-◌, ◌^◌, length, IfOk};
+ghost use Rattle.answer_text.specs.AnswerText.{answer_text};
+
+use crate::fault::AnswerFault;
+use crate::line_reading::{
+    class_line, generator_line, image_line, is_order_line, prime_line, rank_line, relation_line,
+};
+use crate::pieces::split_at_first;
+use crate::source::Source;
+use crate::writing::text;
+use pc_presentation::{Answer, Definition, PcpBuilder, PcpRefusal, Relation, Syllable};
+use pq_base::{Name, NoMemory, Prime};
+use std::alloc::Global;
+
+/// The answer that a text is, or the line of its first fault.
+pub fn read_answer(alloc: Global, bytes: &[u8]) -> Result<Answer, AnswerFault>
+    requires { length bytes.now < 2 ^ 32 - 1 }
+    ensures { IfOk result (λ a. bytes.now ≡ answer_text a) }
+{
+    let (head, rest) = read_head(bytes)?;
+    let (weights, sources, rest) = read_generators(alloc, head, rest)?;
+    let mut body = Body {
+        builder: PcpBuilder::new(alloc, head.prime, &weights, 0)?,
+        last: 0,
+        names: Vec::new(alloc),
+        images: Vec::new(alloc),
+    };
+    let end = read_body(&mut body, head, rest)?;
+    let definitions = definitions(alloc, &sources, &body.names)?;
+    let Body {
+        builder,
+        last: _,
+        names,
+        images,
+    } = body;
+    let Some(answer) = Answer::of(builder.finish(), names, definitions, images) else {
+        return Err(AnswerFault::Line(end));
+    };
+    // the class, and the names in the definitions, are compared with what they are to be
+    if text(alloc, &answer)?.as_slice() != bytes {
+        return Err(AnswerFault::Line(end));
+    }
+    Ok(answer)
+}
+
+/// What the first lines say.
+#[derive(Clone, Copy)]
+struct Head {
+    prime: Prime,
+    rank: u16,
+}
+
+/// The next line and what follows it. Where there is no whole line, the fault is at this line.
+fn next_line(rest: &[u8], line: u32) -> Result<(&[u8], &[u8]), AnswerFault> {
+    match split_at_first(rest, b'\n') {
+        Some(parts) => Ok(parts),
+        None => Err(AnswerFault::Line(line)),
+    }
+}
+
+/// Prime, class, rank and order, and what follows them.
+fn read_head(bytes: &[u8]) -> Result<(Head, &[u8]), AnswerFault> {
+    let (line, rest) = next_line(bytes, 1)?;
+    let Some(prime) = prime_line(line) else {
+        return Err(AnswerFault::Line(1));
+    };
+    let (line, rest) = next_line(rest, 2)?;
+    if class_line(line).is_none() {
+        return Err(AnswerFault::Line(2));
+    }
+    let (line, rest) = next_line(rest, 3)?;
+    let Some(rank) = rank_line(line) else {
+        return Err(AnswerFault::Line(3));
+    };
+    let (line, rest) = next_line(rest, 4)?;
+    if !is_order_line(line, prime.value(), rank) {
+        return Err(AnswerFault::Line(4));
+    }
+    Ok((Head { prime, rank }, rest))
+}
+
+/// The weights and the sources of the generators, and what follows their lines.
+fn read_generators<'a>(
+    alloc: Global,
+    head: Head,
+    text: &'a [u8],
+) -> Result<(Vec<u8>, Vec<Source>, &'a [u8]), AnswerFault> {
+    let mut weights = Vec::new(alloc);
+    let mut sources = Vec::new(alloc);
+    let mut rest = text;
+    for k in 0..head.rank {
+        let number = u32::from(k) + 5;
+        let (line, more) = next_line(rest, number)?;
+        let Some((weight, source)) = generator_line(line, k + 1, head.prime.value(), head.rank)
+        else {
+            return Err(AnswerFault::Line(number));
+        };
+        add_generator(&mut weights, &mut sources, weight, source)?;
+        rest = more;
+    }
+    Ok((weights, sources, rest))
+}
+
+fn add_generator(
+    weights: &mut Vec<u8>,
+    sources: &mut Vec<Source>,
+    weight: u8,
+    source: Source,
+) -> Result<(), NoMemory> {
+    weights.push(weight)?;
+    sources.push(source)?;
+    Ok(())
+}
+
+/// What the lines after the generators say.
+#[derive(Drop)]
+struct Body {
+    builder: PcpBuilder,
+    /// the place of the last relation in the order of all, which are behind it once an image came
+    last: u32,
+    names: Vec<Name>,
+    images: Vec<Vec<Syllable>>,
+}
+
+/// A place behind those of all relations.
+const BEHIND_RELATIONS: u32 = 1_000_000;
+
+/// The place of a relation in the order of all: the powers, then the commutators.
+fn place(relation: Relation) -> u32 {
+    match relation {
+        Relation::Power(i) => u32::from(i),
+        Relation::Commutator(j, i) => 1000 * u32::from(j) + u32::from(i),
+    }
+}
+
+/// Reads relations and images to the end of the bytes, and gives the number of the last line.
+fn read_body(body: &mut Body, head: Head, text: &[u8]) -> Result<u32, AnswerFault> {
+    let mut number = u32::from(head.rank) + 5;
+    let (mut line, mut rest) = next_line(text, number)?;
+    while !matches!(line, [b'e', b'n', b'd']) {
+        if !add_line(body, head, line)? {
+            return Err(AnswerFault::Line(number));
+        }
+        number += 1;
+        (line, rest) = next_line(rest, number)?;
+    }
+    if rest.is_empty() {
+        Ok(number)
+    } else {
+        Err(AnswerFault::Line(number + 1))
+    }
+}
+
+/// Adds what a line says, and says whether it has the form of a relation or an image in its place.
+fn add_line(body: &mut Body, head: Head, line: &[u8]) -> Result<bool, NoMemory> {
+    let alloc = *body.names.allocator();
+    let prime = head.prime.value();
+    if let Some((relation, word)) = relation_line(alloc, line, prime, head.rank)? {
+        return add_relation(body, relation, &word);
+    }
+    match image_line(alloc, line, prime, head.rank)? {
+        Some((name, word)) => {
+            body.names.push(name)?;
+            body.images.push(word)?;
+            body.last = BEHIND_RELATIONS;
+            Ok(true)
+        }
+        None => Ok(false),
+    }
+}
+
+fn add_relation(body: &mut Body, relation: Relation, word: &[Syllable]) -> Result<bool, NoMemory> {
+    let place = place(relation);
+    if place <= body.last {
+        return Ok(false);
+    }
+    match body.builder.relation(relation, word, None) {
+        Ok(()) => {
+            body.last = place;
+            Ok(true)
+        }
+        Err(PcpRefusal::NoMemory) => Err(NoMemory),
+        Err(_) => Ok(false),
+    }
+}
+
+/// The definitions by the numbers of the images.
+fn definitions(
+    alloc: Global,
+    sources: &[Source],
+    names: &[Name],
+) -> Result<Vec<Definition>, NoMemory> {
+    let mut definitions = Vec::new(alloc);
+    for source in sources {
+        definitions.push(source.definition(names))?;
+    }
+    Ok(definitions)
+}

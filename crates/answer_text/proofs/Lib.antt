@@ -14,3 +14,5 @@ pub mod ImagesTold
 pub mod GeneratorsTold
 pub mod HeadTold
 pub mod OneText
+mod FormLaws
+mod FaultLaws

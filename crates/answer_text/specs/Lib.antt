@@ -3,3 +3,5 @@ pub mod Words
 pub mod AnswerText
 pub mod AnswerData
 pub mod OneText
+pub mod AnswerPlaces
+pub mod AnswerFaults

@@ -16,3 +16,4 @@ pub mod HeadTold
 pub mod OneText
 mod FormLaws
 mod FaultLaws
+mod AnswerForm

@@ -57,9 +57,11 @@ generators-lead : (p n : ℕ) (names : List (List ℕ)) (k least : ℕ) (ws : Li
 generators-lead p n names k least [] ds z one inside long weights fit = refl
 generators-lead p n names k least (w ∷ ws) [] z one inside long weights fit = absurd (omega arith)
 generators-lead p n names k least (w ∷ ws) (d ∷ ds) z one inside long weights fit =
-    let low : 1 ≤ w = omega (arith, weights.0) in
-    (in_body p n (length ws) 0, definition-form p n (length ws) k w names d z (omega arith) low weights.1 fit.0,
-    generators-lead p n names (suc k) w ws ds z low (omega arith) (omega arith) weights.2 fit.1)
+    let low : 1 ≤ w = omega (arith, weights.0) in (
+      in_body p n (length ws) 0,
+      definition-form p n (length ws) k w names d z (omega arith) low weights.1 fit.0,
+      generators-lead p n names (suc k) w ws ds z low (omega arith) (omega arith) weights.2 fit.1,
+    )
 
 -- from behind one relation to behind another, which isn't behind b
 abbrev Reaches : ℕ → ℕ → ℕ → List (List ℕ) → ℕ → Type 0
@@ -118,15 +120,19 @@ images-lead : (p n m : ℕ) (names es : List (List ℕ)) → IsScale p n → Are
 images-lead p n m [] es z a b = (at_end, last p n m, refl)
 images-lead p n m (name ∷ names) [] z a b = (at_end, last p n m, refl)
 images-lead p n m (name ∷ names) (e ∷ es) z a b =
-    let long : length e ≡ n = b.0.count in
-    (in_body p n zero 1000000, image_form p n m name (syllables_of 0 e) z a.0 (AreSyllables-syllables_of p n 0 e (omega arith) b.0.below),
-    images-lead p n 1000000 names es z a.1 b.1)
+    let long : length e ≡ n = b.0.count in (
+      in_body p n zero 1000000,
+      image_form p n m name (syllables_of 0 e) z a.0 (AreSyllables-syllables_of p n 0 e (omega arith) b.0.below),
+      images-lead p n 1000000 names es z a.1 b.1,
+    )
 
 ArePowers-each : (p n k : ℕ) (es : List (List ℕ)) → ((i : ℕ) → i < length es → (suc (k + i) + length (get_or es i []) ≡ n) × AllBelow p (get_or es i [])) → ArePowers p n k es
 ArePowers-each p n k [] h = tt
-ArePowers-each p n k (e ∷ es) h =
-    (omega (arith, (h 0 (omega arith)).0), (h 0 (omega arith)).1,
-    ArePowers-each p n (suc k) es (λ i l. (omega (arith, (h (suc i) (omega arith)).0), (h (suc i) (omega arith)).1)))
+ArePowers-each p n k (e ∷ es) h = (
+  omega (arith, (h 0 (omega arith)).0),
+  (h 0 (omega arith)).1,
+  ArePowers-each p n (suc k) es (λ i l. (omega (arith, (h (suc i) (omega arith)).0), (h (suc i) (omega arith)).1)),
+)
 
 AreRow-each : (p n j : ℕ) (es : List (List ℕ)) → ((i : ℕ) → i < length es → (j + length (get_or es i []) ≡ n) × AllBelow p (get_or es i [])) → AreRow p n j es
 AreRow-each p n j [] h = tt
@@ -138,14 +144,16 @@ AreRows-each p n k [] h = tt
 AreRows-each p n k (row ∷ rows) h =
     let first = h 0 (omega arith) in
     let same : suc (k + 0) ≡ suc k = omega arith in
-    let here : AreRow p n (suc k) row = subst (λ (x : ℕ). AreRow p n x row) same first.1 in
-    (omega (arith, first.0), here,
-    AreRows-each p n (suc k) rows (λ j l.
-    let next = h (suc j) (omega arith) in
-    let moved : suc (k + suc j) ≡ suc (suc k + j) = omega arith in
-    (omega (arith, next.0), subst (λ (x : ℕ). AreRow p n x (get_or rows j [])) moved next.1)))
+    let here : AreRow p n (suc k) row = subst (λ (x : ℕ). AreRow p n x row) same first.1 in (
+      omega (arith, first.0),
+      here,
+      AreRows-each p n (suc k) rows (λ j l.
+          let next = h (suc j) (omega arith) in
+          let moved : suc (k + suc j) ≡ suc (suc k + j) = omega arith in
+          (omega (arith, next.0), subst (λ (x : ℕ). AreRow p n x (get_or rows j [])) moved next.1)),
+    )
 
-nth-name : (names : List (List ℕ)) (i : ℕ) → AreNames names → i < length names → IsName (get_or names i [])
+pub nth-name : (names : List (List ℕ)) (i : ℕ) → AreNames names → i < length names → IsName (get_or names i [])
 nth-name [] i a h = absurd (omega arith)
 nth-name (n ∷ ns) zero a h = a.0
 nth-name (n ∷ ns) (suc i) a h = nth-name ns i a.1 (omega arith)
@@ -200,10 +208,24 @@ answer-leads A w =
     AreFit-each n A.names A.definitions (λ k l. fit A k (definition_at A k) (omega arith) w.names w.answer.image_count (w.answer.definitions k (omega arith))) in
     let gens = generators-lead p n A.names 0 1 A.weights A.definitions z (omega arith) (omega arith) (omega arith) w.answer.weights fits in
     let gens_from : Leads (in_body p n n 0) (generator_lines p A.names 0 A.weights A.definitions) (in_body p n zero 0) =
-    subst (λ (x : ℕ). Leads (in_body p n x 0) (generator_lines p A.names 0 A.weights A.definitions) (in_body p n zero 0)) count gens in
-    (for_class p, prime p w.prime, (for_rank p, class p (class_of A) (last-within 1 A.weights w.answer.weights), (for_order p n, rank p n limit, (in_body p n n 0, order p n z,
-    Leads-append (in_body p n n 0) (in_body p n zero 0) at_end (generator_lines p A.names 0 A.weights A.definitions)
-    (power_lines p 0 A.presentation.powers ++ (commutator_lines 0 A.presentation.commutators ++ (image_lines A.names A.images ++ codes "end" ∷ []))) gens_from (body-lead A w)))))
+    subst (λ (x : ℕ). Leads (in_body p n x 0) (generator_lines p A.names 0 A.weights A.definitions) (in_body p n zero 0)) count gens in (
+      for_class p,
+      prime p w.prime,
+      (
+        for_rank p,
+        class p (class_of A) (last-within 1 A.weights w.answer.weights),
+        (
+          for_order p n,
+          rank p n limit,
+          (
+            in_body p n n 0,
+            order p n z,
+            Leads-append (in_body p n n 0) (in_body p n zero 0) at_end (generator_lines p A.names 0 A.weights A.definitions)
+                (power_lines p 0 A.presentation.powers ++ (commutator_lines 0 A.presentation.commutators ++ (image_lines A.names A.images ++ codes "end" ∷ []))) gens_from (body-lead A w),
+          ),
+        ),
+      ),
+    )
 
 pub IsWhole-answer_text : (A : Answer) → IsWritable A → IsWhole for_prime (answer_text A) (length (answer_lines A))
 unfolding answer_text

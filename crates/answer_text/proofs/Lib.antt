@@ -17,3 +17,11 @@ pub mod OneText
 mod FormLaws
 mod FaultLaws
 mod AnswerForm
+mod NumberTexts
+mod FirstPlaces
+mod PieceTexts
+mod WordSteps
+mod SourceLines
+mod RelationAppends
+mod AnswerRead
+mod LineTexts

@@ -23,7 +23,7 @@ nil-split c xs us h =
 pub first-apart : (a b : ℕ) (xs ys : List ℕ) → eqb a b ≡ false → a ∷ xs ≡ b ∷ ys → ⊥
 first-apart a b xs ys other h = eqb-false a b other (first-same a b xs ys h)
 
-avoids-parts : (c b : ℕ) (bs : List ℕ) → avoids c (b ∷ bs) ≡ true → (b ≢ c) × (avoids c bs ≡ true)
+pub avoids-parts : (c b : ℕ) (bs : List ℕ) → avoids c (b ∷ bs) ≡ true → (b ≢ c) × (avoids c bs ≡ true)
 avoids-parts c b bs = elim (eqb b c) as (λ t. eqb b c ≡ t → cond t false (avoids c bs) ≡ true → (b ≢ c) × (avoids c bs ≡ true)) [
   | true ↦ λ e h. cc
   | false ↦ λ e h. (eqb-false b c e, h)

@@ -41,8 +41,12 @@ rank_line n = codes "rank " ++ decimal n
 abbrev pub order_line : ℕ → ℕ → List ℕ
 order_line p n = codes "order " ++ (decimal p ++ (codes "^" ++ decimal n))
 
+-- the line of generator k of weight w, up to its definition, and what follows
+abbrev pub generator_start : ℕ → ℕ → List ℕ → List ℕ
+generator_start k w t = codes "generator " ++ (generator_text k ++ (codes " weight " ++ (decimal w ++ (codes " from " ++ t))))
+
 abbrev pub source_line : ℕ → ℕ → ℕ → Source → List ℕ
-source_line p k w s = codes "generator " ++ (generator_text k ++ (codes " weight " ++ (decimal w ++ (codes " from " ++ source_text p s))))
+source_line p k w s = generator_start k w (source_text p s)
 
 abbrev pub relation_line : ℕ → Relation → List Syllable → List ℕ
 relation_line p r w = codes "relation " ++ (left_text p r ++ (codes " = " ++ word_text w))

@@ -5,3 +5,5 @@ pub mod AnswerData
 pub mod OneText
 pub mod AnswerPlaces
 pub mod AnswerFaults
+pub mod Numbers
+pub mod Sources

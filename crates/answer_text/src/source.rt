@@ -1,6 +1,12 @@
 //! Definitions as a text has them, which name the image that they mean.
 
-use crate::pieces::left_side;
+ghost use Rattle.std.specs.Prelude.{◌≡◌, ◌<◌, ◌≤◌, ◌-◌, ℕ, List, [], get_or, length, IfSome, IfNone};
+ghost use Rattle.pc_presentation.specs.Definition.{definition_of};
+ghost use Rattle.answer_text.specs.declared.source.Source.{Source as SourceData};
+ghost use Rattle.answer_text.specs.AnswerPlaces.{IsSource, source_text};
+ghost use Rattle.answer_text.specs.Sources.{Resolves, FindsName};
+
+use crate::pieces::{behind, left_side};
 use pc_presentation::{Definition, Relation};
 use pq_base::Name;
 
@@ -15,17 +21,23 @@ pub enum Source {
 
 impl Source {
     /// The source that is written here, of a generator of `rank`.
-    pub(crate) fn of(text: &[u8], prime: u8, rank: u16) -> Option<Source> {
-        match text.strip_prefix(b"image ") {
+    pub(crate) fn of(text: &[u8], prime: u8, rank: u16) -> Option<Source>
+        requires { rank < 1000 }
+        ensures some { IfSome result (λ s. IsSource rank s × (text.now ≡ source_text prime s)) }
+        ensures none { IfNone result ((s : SourceData) → IsSource rank s → ¬ (text.now ≡ source_text prime s)) }
+    {
+        match behind(text, b"image ") {
             Some(name) => Some(Source::Image(Name::of(name)?)),
             None => Some(Source::RightSide(left_side(text, prime, rank)?)),
         }
     }
 
-    /// The definition by the number of the name among these, which is 0 where it isn't one of them.
-    pub(crate) fn definition(&self, names: &[Name]) -> Definition {
+    /// The definition by the number of the name among these, which is 0 where it isn't one of the first 32.
+    pub(crate) fn definition(&self, names: &[Name]) -> Definition
+        ensures { Resolves names.now self.now (definition_of result) }
+    {
         match self {
-            Source::Image(name) => Definition::Image(number_of(name, names)),
+            Source::Image(name) => Definition::Image(number_in(names, name)),
             Source::RightSide(Relation::Commutator(j, i)) => Definition::Commutator(*j, *i),
             Source::RightSide(Relation::Power(j)) => Definition::Power(*j),
         }
@@ -33,9 +45,18 @@ impl Source {
 }
 
 /// The number of a name among these, counted from 1, or 0 where it isn't one of the first 32.
-fn number_of(name: &Name, names: &[Name]) -> u16 {
-    match names.iter().take(32).position(|other| other == name) {
-        Some(at) => at as u16 + 1,
-        None => 0,
+fn number_in(names: &[Name], name: &Name) -> u16
+    ensures { FindsName names.now name.now result }
+{
+    let mut number = 0;
+    for other in names {
+        if number == 32 {
+            return 0;
+        }
+        number += 1;
+        if other == name {
+            return number;
+        }
     }
+    0
 }

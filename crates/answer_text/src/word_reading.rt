@@ -1,5 +1,11 @@
 //! Words of a presentation, read from their texts.
 
+ghost use Rattle.std.specs.Prelude.{◌≡◌, ◌<◌, ◌≤◌, true, List, ◌∷◌, ◌++◌, IfOk, IfSome, IfNone, MatchOption};
+ghost use Rattle.pc_presentation.specs.declared.syllable.Syllable.{Syllable as SyllableRecord};
+ghost use Rattle.pc_presentation.specs.Syllable.{AreSyllables};
+ghost use Rattle.answer_text.specs.Lines.{avoids};
+ghost use Rattle.answer_text.specs.Words.{word_text};
+
 use crate::pieces::{split_at_first, syllable};
 use pc_presentation::Syllable;
 use pq_base::NoMemory;
@@ -12,7 +18,12 @@ pub(crate) fn word(
     prime: u8,
     rank: u16,
     after: u16,
-) -> Result<Option<Vec<Syllable>>, NoMemory> {
+) -> Result<Option<Vec<Syllable>>, NoMemory>
+    requires prime { prime ≤ 100 }
+    requires rank { rank < 1000 }
+    ensures some { IfOk result (λ o. IfSome o (λ w. AreSyllables prime rank after w.items × (text.now ≡ word_text w.items))) }
+    ensures none { IfOk result (λ o. IfNone o ((w : List SyllableRecord) → AreSyllables prime rank after w → ¬ (text.now ≡ word_text w))) }
+{
     let mut word = Vec::new(alloc);
     if matches!(text, [b'1']) {
         return Ok(Some(word));
@@ -35,7 +46,10 @@ pub(crate) fn word(
 }
 
 /// The text up to the first star, and what is behind it, where there is one.
-fn cut(text: &[u8]) -> (&[u8], Option<&[u8]>) {
+fn cut(text: &[u8]) -> (&[u8], Option<&[u8]>)
+    ensures parts { MatchOption result.1 (result.0.now ≡ text.now) (λ more. text.now ≡ result.0.now ++ 42 ∷ more.now) }
+    ensures first { avoids 42 result.0.now ≡ true }
+{
     match split_at_first(text, b'*') {
         Some((piece, more)) => (piece, Some(more)),
         None => (text, None),

@@ -33,7 +33,7 @@ offered-small p h = elim h [
   ]
 ]
 
-pub AreWritten-AreSyllables : (p n k : ℕ) (w : List Syllable) → p < 100 → n < 1000 → AreSyllables p n k w → AreWritten w
+pub AreWritten-AreSyllables : (p n k : ℕ) (w : List Syllable) → p ≤ 100 → n < 1000 → AreSyllables p n k w → AreWritten w
 AreWritten-AreSyllables p n k [] small limit a = tt
 AreWritten-AreSyllables p n k (s ∷ w) small limit a =
     ((omega (arith, a.1), a.2, omega (arith, a.3)), AreWritten-AreSyllables p n s.generator w small limit a.4)

@@ -25,3 +25,4 @@ mod SourceLines
 mod RelationAppends
 mod AnswerRead
 mod LineTexts
+mod BadLines

@@ -12,6 +12,10 @@ pub IfNone-of : {X : Type 0} (o : Option X) (P : Type 0) → P → IfNone o P
 IfNone-of None P h = h
 IfNone-of (Some x) P h = tt
 
+pub IfNone-then : {X : Type 0} (o : Option X) (P Q : Type 0) → IfNone o P → (P → Q) → IfNone o Q
+IfNone-then None P Q h f = f h
+IfNone-then (Some x) P Q h f = tt
+
 pub avoids-not : (c : ℕ) (xs ys : List ℕ) → avoids c (xs ++ c ∷ ys) ≡ true → ⊥
 avoids-not c [] ys h = (avoids-parts c c ys h).0 refl
 avoids-not c (x ∷ xs) ys h = avoids-not c xs ys (avoids-parts c x (xs ++ c ∷ ys) h).1

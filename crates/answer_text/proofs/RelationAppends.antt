@@ -101,16 +101,20 @@ commutator_lines-set k zero i j m last (row ∷ rows) e h g small one two low b 
     let here : suc k ≡ j = omega arith in
     let blank : RowBlank (suc k) i row = RowBlank-later (suc k) (last - 1000 * suc k) i row (omega arith) b.0 in
     let none : commutator_lines (suc k) rows ≡ [] = rows-blank (suc k) last rows (omega arith) b.1 in
-    let place : suc i ≡ 1000 * j + m - 1000 * suc k = omega arith in
-    (ap₂ (λ (s t : List (List ℕ)). s ++ t) (row_lines-set (suc k) 0 i m row e g (omega arith) blank) none
-    ∙ append-nil (commutator_row_lines (suc k) 0 row ++ relation_lines (commutator_text (suc k) m) (syllables_of (suc k) e))
-    ∙ ap (λ (x : ℕ). commutator_row_lines (suc k) 0 row ++ relation_lines (commutator_text x m) (syllables_of x e)) here
-    ∙ ap (λ (t : List (List ℕ)). t ++ relation_lines (commutator_text j m) (syllables_of j e)) (sym (append-nil (commutator_row_lines (suc k) 0 row)))
-    ∙ ap (λ (t : List (List ℕ)). (commutator_row_lines (suc k) 0 row ++ t) ++ relation_lines (commutator_text j m) (syllables_of j e)) (sym none),
-    (subst (λ (x : ℕ). RowBlank (suc k) x (slice_set row i e)) place (RowBlank-set (suc k) i row e blank),
-    RowsBlank-later (suc k) last (1000 * j + m) rows (omega arith) b.1))
+    let place : suc i ≡ 1000 * j + m - 1000 * suc k = omega arith in (
+      ap₂ (λ (s t : List (List ℕ)). s ++ t) (row_lines-set (suc k) 0 i m row e g (omega arith) blank) none
+          ∙ append-nil (commutator_row_lines (suc k) 0 row ++ relation_lines (commutator_text (suc k) m) (syllables_of (suc k) e))
+          ∙ ap (λ (x : ℕ). commutator_row_lines (suc k) 0 row ++ relation_lines (commutator_text x m) (syllables_of x e)) here
+          ∙ ap (λ (t : List (List ℕ)). t ++ relation_lines (commutator_text j m) (syllables_of j e)) (sym (append-nil (commutator_row_lines (suc k) 0 row)))
+          ∙ ap (λ (t : List (List ℕ)). (commutator_row_lines (suc k) 0 row ++ t) ++ relation_lines (commutator_text j m) (syllables_of j e)) (sym none),
+      (
+        subst (λ (x : ℕ). RowBlank (suc k) x (slice_set row i e)) place (RowBlank-set (suc k) i row e blank),
+        RowsBlank-later (suc k) last (1000 * j + m) rows (omega arith) b.1,
+      ),
+    )
 commutator_lines-set k (suc q) i j m last (row ∷ rows) e h g small one two low b =
-    let more = commutator_lines-set (suc k) q i j m last rows e (omega arith) g small (omega arith) two low b.1 in
-    (ap (λ (t : List (List ℕ)). commutator_row_lines (suc k) 0 row ++ t) more.0
-    ∙ sym (append_assoc (commutator_row_lines (suc k) 0 row) (commutator_lines (suc k) rows) (relation_lines (commutator_text j m) (syllables_of j e))),
-    (RowBlank-later (suc k) (last - 1000 * suc k) (1000 * j + m - 1000 * suc k) row (omega arith) b.0, more.1))
+    let more = commutator_lines-set (suc k) q i j m last rows e (omega arith) g small (omega arith) two low b.1 in (
+      ap (λ (t : List (List ℕ)). commutator_row_lines (suc k) 0 row ++ t) more.0
+          ∙ sym (append_assoc (commutator_row_lines (suc k) 0 row) (commutator_lines (suc k) rows) (relation_lines (commutator_text j m) (syllables_of j e))),
+      (RowBlank-later (suc k) (last - 1000 * suc k) (1000 * j + m - 1000 * suc k) row (omega arith) b.0, more.1),
+    )

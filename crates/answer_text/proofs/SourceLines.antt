@@ -16,21 +16,10 @@ use Rattle.answer_text.specs.AnswerPlaces.{Place, HasForm, IsScale, IsSource, le
 use Rattle.answer_text.specs.AnswerPlaces.Place.{in_body}
 use Rattle.answer_text.specs.AnswerPlaces.HasForm.{generator}
 use Rattle.answer_text.specs.Sources.{Resolves, FindsName}
+pub use Rattle.answer_text.specs.ReadSoFar.{source_lines, AreSources}
 use Rattle.answer_text.proofs.Splits.{first-apart, avoids, split-same, decimal-same}
 use Rattle.answer_text.proofs.FormLaws.{offered-small, avoids-form, left_text-same}
 use Rattle.answer_text.proofs.GeneratorsTold.{place-same}
-
--- the lines of the generators after number k
-abbrev pub source_lines : ℕ → ℕ → List ℕ → List Source → List (List ℕ)
-source_lines p k [] ss = []
-source_lines p k (w ∷ ws) [] = []
-source_lines p k (w ∷ ws) (s ∷ ss) = source_line p (suc k) w s ∷ source_lines p (suc k) ws ss
-
--- weights and definitions that lines can hold
-abbrev pub AreSources : ℕ → List ℕ → List Source → Type 0
-AreSources n [] ss = Unit {0}
-AreSources n (w ∷ ws) [] = Unit {0}
-AreSources n (w ∷ ws) (s ∷ ss) = (1 ≤ w) × (w ≤ 60) × IsSource n s × AreSources n ws ss
 
 pub source_lines-push : (p k j : ℕ) (ws : List ℕ) (ss : List Source) (w : ℕ) (s : Source) → length ss ≡ length ws → j ≡ suc (k + length ws)
     → source_lines p k (ws ++ w ∷ []) (ss ++ s ∷ []) ≡ source_lines p k ws ss ++ source_line p j w s ∷ []

@@ -7,3 +7,4 @@ pub mod AnswerPlaces
 pub mod AnswerFaults
 pub mod Numbers
 pub mod Sources
+pub mod ReadSoFar

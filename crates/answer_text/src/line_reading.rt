@@ -111,13 +111,22 @@ pub(crate) fn relation_line(
     let Some((relation, right)) = relation_start(line, prime, rank) else {
         return Ok(None);
     };
-    let after = match relation {
+    let Some(word) = word(alloc, right, prime, rank, leading(relation))? else {
+        return Ok(None);
+    };
+    if word.is_empty() {
+        return Ok(None);
+    }
+    Ok(Some((relation, word)))
+}
+
+/// The generator after which those of the right side come.
+fn leading(relation: Relation) -> u16
+    ensures { result ≡ side_start relation }
+{
+    match relation {
         Relation::Power(i) => i,
         Relation::Commutator(j, _) => j,
-    };
-    match word(alloc, right, prime, rank, after)? {
-        Some(word) if !word.is_empty() => Ok(Some((relation, word))),
-        _ => Ok(None),
     }
 }
 
@@ -147,10 +156,10 @@ pub(crate) fn image_line(
     let Some((name, right)) = image_start(line) else {
         return Ok(None);
     };
-    match word(alloc, right, prime, rank, 0)? {
-        Some(word) => Ok(Some((name, word))),
-        None => Ok(None),
-    }
+    let Some(word) = word(alloc, right, prime, rank, 0)? else {
+        return Ok(None);
+    };
+    Ok(Some((name, word)))
 }
 
 /// The name of the line of an image, and what stands behind the equals sign.

@@ -1,7 +1,12 @@
 //! Reading an answer's text, a line at a time.
 
-ghost use Rattle.std.specs.Prelude.{◌≡◌, ◌<◌, ◌-◌, ◌^◌, length, IfOk};
+ghost use Rattle.std.specs.Prelude.{◌≡◌, ◌<◌, ◌≤◌, ◌+◌, ◌-◌, ◌^◌, ◌∷◌, ◌++◌, true, length, IfOk, IfErr};
+ghost use Rattle.pq_base.specs.Prime.{prime_value};
+ghost use Rattle.answer_text.specs.declared.fault.AnswerFault.TheVariants.{Line};
+ghost use Rattle.answer_text.specs.Lines.{avoids, text_of_lines};
 ghost use Rattle.answer_text.specs.AnswerText.{answer_text};
+ghost use Rattle.answer_text.specs.AnswerPlaces.Place.{for_prime, in_body};
+ghost use Rattle.answer_text.specs.ReadSoFar.{IsBadAt, IsHead, source_lines, AreSources};
 
 use crate::fault::AnswerFault;
 use crate::line_reading::{
@@ -53,7 +58,11 @@ struct Head {
 }
 
 /// The next line and what follows it. Where there is no whole line, the fault is at this line.
-fn next_line(rest: &[u8], line: u32) -> Result<(&[u8], &[u8]), AnswerFault> {
+fn next_line(rest: &[u8], line: u32) -> Result<(&[u8], &[u8]), AnswerFault>
+    ensures ok { IfOk result (λ x. (rest.now ≡ x.0.now ++ 10 ∷ x.1.now) × (avoids 10 x.0.now ≡ true)) }
+    ensures shorter { IfOk result (λ x. length x.1.now + 1 ≤ length rest.now) }
+    ensures err { IfErr result (λ e. (e ≡ Line line) × (avoids 10 rest.now ≡ true)) }
+{
     match split_at_first(rest, b'\n') {
         Some(parts) => Ok(parts),
         None => Err(AnswerFault::Line(line)),
@@ -61,7 +70,12 @@ fn next_line(rest: &[u8], line: u32) -> Result<(&[u8], &[u8]), AnswerFault> {
 }
 
 /// Prime, class, rank and order, and what follows them.
-fn read_head(bytes: &[u8]) -> Result<(Head, &[u8]), AnswerFault> {
+fn read_head(bytes: &[u8]) -> Result<(Head, &[u8]), AnswerFault>
+    ensures ok { IfOk result (λ x. IsHead (prime_value x.0.prime) x.0.rank bytes.now x.1.now) }
+    ensures shorter { IfOk result (λ x. length x.1.now + 4 ≤ length bytes.now) }
+    ensures limit { IfOk result (λ x. x.0.rank ≤ 100) }
+    ensures err { IfErr result (IsBadAt for_prime bytes.now 1) }
+{
     let (line, rest) = next_line(bytes, 1)?;
     let Some(prime) = prime_line(line) else {
         return Err(AnswerFault::Line(1));
@@ -86,7 +100,13 @@ fn read_generators<'a>(
     alloc: Global,
     head: Head,
     text: &'a [u8],
-) -> Result<(Vec<u8>, Vec<Source>, &'a [u8]), AnswerFault> {
+) -> Result<(Vec<u8>, Vec<Source>, &'a [u8]), AnswerFault>
+    requires { head.rank ≤ 100 }
+    ensures ok { IfOk result (λ x. (length x.0.items ≡ head.rank) × (length x.1.items ≡ head.rank) × AreSources head.rank x.0.items x.1.items
+        × (text.now ≡ text_of_lines (source_lines (prime_value head.prime) 0 x.0.items x.1.items) ++ x.2.now)) }
+    ensures shorter { IfOk result (λ x. length x.2.now + head.rank ≤ length text.now) }
+    ensures err { IfErr result (IsBadAt (in_body (prime_value head.prime) head.rank head.rank 0) text.now 5) }
+{
     let mut weights = Vec::new(alloc);
     let mut sources = Vec::new(alloc);
     let mut rest = text;
@@ -136,7 +156,10 @@ fn place(relation: Relation) -> u32 {
 }
 
 /// Reads relations and images to the end of the bytes, and gives the number of the last line.
-fn read_body(body: &mut Body, head: Head, text: &[u8]) -> Result<u32, AnswerFault> {
+fn read_body(body: &mut Body, head: Head, text: &[u8]) -> Result<u32, AnswerFault>
+    requires rank { head.rank ≤ 100 }
+    requires limit { length text.now + head.rank + 4 < 2 ^ 32 - 1 }
+{
     let mut number = u32::from(head.rank) + 5;
     let (mut line, mut rest) = next_line(text, number)?;
     while !matches!(line, [b'e', b'n', b'd']) {
@@ -154,7 +177,9 @@ fn read_body(body: &mut Body, head: Head, text: &[u8]) -> Result<u32, AnswerFaul
 }
 
 /// Adds what a line says, and says whether it has the form of a relation or an image in its place.
-fn add_line(body: &mut Body, head: Head, line: &[u8]) -> Result<bool, NoMemory> {
+fn add_line(body: &mut Body, head: Head, line: &[u8]) -> Result<bool, NoMemory>
+    requires { head.rank ≤ 100 }
+{
     let alloc = *body.names.allocator();
     let prime = head.prime.value();
     if let Some((relation, word)) = relation_line(alloc, line, prime, head.rank)? {

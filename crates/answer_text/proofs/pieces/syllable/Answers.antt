@@ -12,7 +12,7 @@ pub returns-in_err-generator-clause-none : goal.returns-in_err-generator-clause-
 returns-in_err-generator-clause-none c =
     IfNone-of _ ((s : Syllable) → IsWritten s → ¬ (c.args.text.now ≡ syllable_text s)) (λ s w e.
     c.in_err-generator.ensures.none s.generator w.0
-    (syllable-plain c.in_ok-digits.digits.now s c.in-None.ensures.none w (behind c.args.text.now c.in_ok-digits.digits.now s c.in_ok-digits.ensures.some e)))
+    (syllable-plain c.in_ok-digits.digits.now s c.in_default.ensures.none w (behind c.args.text.now c.in_ok-digits.digits.now s c.in_ok-digits.ensures.some e)))
 
 pub returns-in_err-generator-2-clause-none : goal.returns-in_err-generator-2-clause-none
 returns-in_err-generator-2-clause-none c =

@@ -24,13 +24,13 @@ abbrev pub body_text : ℕ → Presentation → List (List ℕ) → List (List �
 body_text p P names es = text_of_lines (power_lines p 0 P.powers) ++ (text_of_lines (commutator_lines 0 P.commutators) ++ images_text names es)
 
 -- a presentation, names and images that lines can hold
-pub record IsBody (p n : ℕ) (P : Presentation) (names es : List (List ℕ)) : Type 0 where
+pub record IsBody (p n : ℕ) (P : Presentation) (ns es : List (List ℕ)) : Type 0 where
   pub scale : IsScale p n
   pub prime : P.prime ≡ p
   pub rank : P.rank ≡ n
   pub presentation : IsPresentation P
-  pub names : AreNames names
-  pub count : length es ≡ length names
+  pub names : AreNames ns
+  pub count : length es ≡ length ns
   pub normal : AreNormal p n es
 
 no_power : (p j : ℕ) (P : Presentation) (names es : List (List ℕ)) → AreShortRows P.commutators → NoRelation (power_text p (suc j)) (text_of_lines (commutator_lines 0 P.commutators) ++ images_text names es)

@@ -1,6 +1,8 @@
 -- Where a line that was read has no form in its place, it is the first bad line.
-use Rattle.std.proofs.Common.{◌≡◌, ◌<◌, ◌≤◌, ◌+◌, ℕ, zero, suc, true, List, [], ◌∷◌, ◌++◌, length, refl, ap, sym, subst, ◌∙◌, arith, append_assoc}
-use Rattle.pq_base.specs.Prime.{IsOffered}
+use Rattle.std.proofs.Common.{◌≡◌, ◌<◌, ◌≤◌, ◌+◌, ◌-◌, ℕ, zero, suc, true, List, [], ◌∷◌, ◌++◌, length, refl, ap, sym, subst, ◌∙◌, inl, inr, arith, append_assoc}
+use Rattle.pq_base.specs.declared.prime.Prime.{Prime}
+use Rattle.pq_base.specs.declared.prime.Prime.TheVariants.{P2, P3, P5, P7}
+use Rattle.pq_base.specs.Prime.{IsOffered, prime_value}
 use Rattle.answer_text.specs.declared.source.Source.{Source}
 use Rattle.answer_text.specs.Lines.{avoids, text_of_lines}
 use Rattle.answer_text.specs.AnswerText.{head_lines}
@@ -9,6 +11,7 @@ use Rattle.answer_text.specs.AnswerPlaces.Place.{for_prime, for_class, for_rank,
 use Rattle.answer_text.specs.AnswerPlaces.HasForm.{prime, class, rank, order, generator, relation, image, last}
 use Rattle.answer_text.specs.AnswerFaults.{IsWhole, IsFirstBad}
 use Rattle.answer_text.specs.ReadSoFar.{source_lines, AreSources}
+use Rattle.answer_text.proofs.LineLaws.{text_of_lines-append}
 use Rattle.answer_text.proofs.Splits.{nil-split, split-same}
 use Rattle.answer_text.proofs.PieceTexts.{avoids-not}
 use Rattle.answer_text.proofs.FormLaws.{avoids-form}
@@ -62,15 +65,21 @@ open-body p n left m e = cc
 -- a first bad line behind lines that have their form
 pub IsFirstBad-behind : (P Q : Place) (ls : List (List ℕ)) (bytes rest : List ℕ) (k : ℕ) → Leads P ls Q → bytes ≡ text_of_lines ls ++ rest → IsFirstBad Q rest k → IsFirstBad P bytes (length ls + k)
 IsFirstBad-behind P Q [] bytes rest k a e bad =
-    subst (λ (x : List ℕ). IsFirstBad P x k) (sym e) (subst (λ (x : Place). IsFirstBad x rest k) (sym a) bad)
+    let same : k ≡ 0 + k = omega arith in
+    subst (λ (x : ℕ). IsFirstBad P bytes x) same (subst (λ (x : List ℕ). IsFirstBad P x k) (sym e) (subst (λ (x : Place). IsFirstBad x rest k) (sym a) bad))
 IsFirstBad-behind P Q (l ∷ ls) bytes rest k a e bad =
-    IsFirstBad-step P a.0 l (text_of_lines ls ++ rest) bytes (length ls + k) a.1 (e ∙ append_assoc l (10 ∷ text_of_lines ls) rest)
-    (IsFirstBad-behind a.0 Q ls (text_of_lines ls ++ rest) rest k a.2 refl bad)
+    let same : suc (length ls + k) ≡ suc (length ls) + k = omega arith in
+    subst (λ (x : ℕ). IsFirstBad P bytes x) same
+    (IsFirstBad-step P a.0 l (text_of_lines ls ++ rest) bytes (length ls + k) a.1 (e ∙ append_assoc l (10 ∷ text_of_lines ls) rest)
+    (IsFirstBad-behind a.0 Q ls (text_of_lines ls ++ rest) rest k a.2 refl bad))
 
 pub IsWhole-after : (P Q : Place) (ls : List (List ℕ)) (bytes rest : List ℕ) (k : ℕ) → Leads P ls Q → bytes ≡ text_of_lines ls ++ rest → IsWhole Q rest k → IsWhole P bytes (length ls + k)
 IsWhole-after P Q [] bytes rest k a e w =
-    subst (λ (x : List ℕ). IsWhole P x k) (sym e) (subst (λ (x : Place). IsWhole x rest k) (sym a) w)
+    let same : k ≡ 0 + k = omega arith in
+    subst (λ (x : ℕ). IsWhole P bytes x) same (subst (λ (x : List ℕ). IsWhole P x k) (sym e) (subst (λ (x : Place). IsWhole x rest k) (sym a) w))
 IsWhole-after P Q (l ∷ ls) bytes rest k a e w =
+    let same : suc (length ls + k) ≡ suc (length ls) + k = omega arith in
+    subst (λ (x : ℕ). IsWhole P bytes x) same
     (l, a.0, text_of_lines ls ++ rest, a.1, e ∙ append_assoc l (10 ∷ text_of_lines ls) rest, IsWhole-after a.0 Q ls (text_of_lines ls ++ rest) rest k a.2 refl w)
 
 pub head-leads : (p c n : ℕ) → IsScale p n → c ≤ 60 → Leads for_prime (head_lines p c n) (in_body p n n 0)
@@ -92,3 +101,48 @@ pub no-generator : (p n left k : ℕ) (line : List ℕ) → suc k + left ≡ n �
 no-generator p n left k line inside none Q (generator p2 n2 m left2 k2 w s z inside2 one top is) =
     let same : k2 ≡ k = omega arith in
     none w s one top is (ap (λ (x : ℕ). source_line p (suc x) w s) same)
+
+pub offered-value : (q : Prime) → IsOffered (prime_value q)
+offered-value P2 = inl refl
+offered-value P3 = inr (inl refl)
+offered-value P5 = inr (inr (inl refl))
+offered-value P7 = inr (inr (inr refl))
+
+pub prime-form : (line : List ℕ) (p : ℕ) → IsOffered p → line ≡ prime_line p → HasForm for_prime line (for_class p)
+prime-form line p o e = subst (λ (x : List ℕ). HasForm for_prime x (for_class p)) (sym e) (prime p o)
+
+pub class-form : (line : List ℕ) (p c : ℕ) → c ≤ 60 → line ≡ class_line c → HasForm (for_class p) line (for_rank p)
+class-form line p c h e = subst (λ (x : List ℕ). HasForm (for_class p) x (for_rank p)) (sym e) (class p c h)
+
+pub rank-form : (line : List ℕ) (p n : ℕ) → n ≤ 100 → line ≡ rank_line n → HasForm (for_rank p) line (for_order p n)
+rank-form line p n h e = subst (λ (x : List ℕ). HasForm (for_rank p) x (for_order p n)) (sym e) (rank p n h)
+
+length-source_lines : (p k : ℕ) (ws : List ℕ) (ss : List Source) → length ss ≡ length ws → length (source_lines p k ws ss) ≡ length ws
+length-source_lines p k [] ss h = refl
+length-source_lines p k (w ∷ ws) [] h = absurd (omega arith)
+length-source_lines p k (w ∷ ws) (s ∷ ss) h = ap (λ (x : ℕ). suc x) (length-source_lines p (suc k) ws ss (omega arith))
+
+-- behind k lines of generators
+pub generators-bad : (p n k : ℕ) (ws : List ℕ) (ss : List Source) (text rest : List ℕ) → IsScale p n → length ws ≡ k → length ss ≡ k → k ≤ n → AreSources n ws ss
+    → text ≡ text_of_lines (source_lines p 0 ws ss) ++ rest → IsFirstBad (in_body p n (n - k) 0) rest 0 → IsFirstBad (in_body p n n 0) text k
+generators-bad p n k ws ss text rest z one two inside a e bad =
+    let start : length ws + (n - k) ≡ n = omega arith in
+    let count : length (source_lines p 0 ws ss) ≡ length ws = length-source_lines p 0 ws ss (omega arith) in
+    let lines : length (source_lines p 0 ws ss) + 0 ≡ k = omega arith in
+    let lead : Leads (in_body p n n 0) (source_lines p 0 ws ss) (in_body p n (n - k) 0) =
+    subst (λ (x : ℕ). Leads (in_body p n x 0) (source_lines p 0 ws ss) (in_body p n (n - k) 0)) start (sources-lead p n 0 (n - k) ws ss z (omega arith) (omega arith) a) in
+    subst (λ (x : ℕ). IsFirstBad (in_body p n n 0) text x) lines
+    (IsFirstBad-behind (in_body p n n 0) (in_body p n (n - k) 0) (source_lines p 0 ws ss) text rest 0 lead e bad)
+
+pub no-next-generator : (p n k j : ℕ) (line : List ℕ) → k < n → j ≡ suc k → ((w : ℕ) (s : Source) → 1 ≤ w → w ≤ 60 → IsSource n s → ¬ (line ≡ source_line p j w s))
+    → (Q : Place) → HasForm (in_body p n (n - k) 0) line Q → ⊥
+no-next-generator p n k j line inside next none Q f =
+    let left : n - k ≡ suc (n - suc k) = omega arith in
+    no-generator p n (n - suc k) k line (omega arith) (subst (λ (x : ℕ). (w : ℕ) (s : Source) → 1 ≤ w → w ≤ 60 → IsSource n s → ¬ (line ≡ source_line p x w s)) next none)
+    Q (subst (λ (x : ℕ). HasForm (in_body p n x 0) line Q) left f)
+
+-- one line more
+pub text-push : (ls : List (List ℕ)) (l text rest more : List ℕ) → text ≡ text_of_lines ls ++ rest → rest ≡ l ++ 10 ∷ more → text ≡ text_of_lines (ls ++ l ∷ []) ++ more
+text-push ls l text rest more e cut =
+    e ∙ ap (λ (x : List ℕ). text_of_lines ls ++ x) cut ∙ sym (ap (λ (x : List ℕ). x ++ more) (text_of_lines-append ls (l ∷ []))
+    ∙ append_assoc (text_of_lines ls) (l ++ 10 ∷ []) more ∙ ap (λ (x : List ℕ). text_of_lines ls ++ x) (append_assoc l (10 ∷ []) more))

@@ -1,5 +1,5 @@
 -- What a reader has found so far: lines that have their form, or the first that has none.
-use Rattle.std.specs.Prelude.{◌≡◌, ◌<◌, ◌≤◌, ◌+◌, ℕ, zero, suc, List, [], ◌∷◌, ◌++◌}
+use Rattle.std.specs.Prelude.{◌≡◌, ◌<◌, ◌≤◌, ◌+◌, ℕ, zero, suc, List, [], ◌∷◌, ◌++◌, codes, decimal}
 use Rattle.pc_presentation.specs.declared.syllable.Syllable.{Syllable}
 use Rattle.answer_text.specs.declared.source.Source.{Source}
 use Rattle.answer_text.specs.declared.fault.AnswerFault.{AnswerFault}
@@ -17,6 +17,11 @@ IsBadAt P bytes first NoMemory = Unit {0}
 -- the bytes begin with the lines up to the order, for this prime and rank
 abbrev pub IsHead : ℕ → ℕ → List ℕ → List ℕ → Type 0
 IsHead p n bytes rest = (c : ℕ) × IsScale p n × (c ≤ 60) × (bytes ≡ text_of_lines (head_lines p c n) ++ rest)
+
+-- the same, behind the line of the prime
+abbrev pub IsSize : ℕ → ℕ → List ℕ → List ℕ → Type 0
+IsSize p n text rest = (c : ℕ) × IsScale p n × (c ≤ 60)
+    × (text ≡ text_of_lines ((codes "class " ++ decimal c) ∷ (codes "rank " ++ decimal n) ∷ (codes "order " ++ (decimal p ++ (codes "^" ++ decimal n))) ∷ []) ++ rest)
 
 -- the lines of the generators after number k
 abbrev pub source_lines : ℕ → ℕ → List ℕ → List Source → List (List ℕ)

@@ -1,12 +1,11 @@
 //! Reading an answer's text, a line at a time.
 
-ghost use Rattle.std.specs.Prelude.{◌≡◌, ◌<◌, ◌≤◌, ◌+◌, ◌-◌, ◌^◌, ◌∷◌, ◌++◌, true, length, IfOk, IfErr};
+ghost use Rattle.std.specs.Prelude.{◌≡◌, ◌<◌, ◌≤◌, ◌+◌, ◌-◌, ◌^◌, ◌∷◌, ◌++◌, true, [], length, IfOk, IfErr, IfSome, IfNone, OnOk};
 ghost use Rattle.pq_base.specs.Prime.{prime_value};
-ghost use Rattle.answer_text.specs.declared.fault.AnswerFault.TheVariants.{Line};
 ghost use Rattle.answer_text.specs.Lines.{avoids, text_of_lines};
 ghost use Rattle.answer_text.specs.AnswerText.{answer_text};
-ghost use Rattle.answer_text.specs.AnswerPlaces.Place.{for_prime, in_body};
-ghost use Rattle.answer_text.specs.ReadSoFar.{IsBadAt, IsHead, source_lines, AreSources};
+ghost use Rattle.answer_text.specs.AnswerPlaces.Place.{for_prime, for_class, in_body};
+ghost use Rattle.answer_text.specs.ReadSoFar.{IsBadAt, IsHead, IsSize, source_lines, AreSources};
 
 use crate::fault::AnswerFault;
 use crate::line_reading::{
@@ -57,16 +56,14 @@ struct Head {
     rank: u16,
 }
 
-/// The next line and what follows it. Where there is no whole line, the fault is at this line.
-fn next_line(rest: &[u8], line: u32) -> Result<(&[u8], &[u8]), AnswerFault>
-    ensures ok { IfOk result (λ x. (rest.now ≡ x.0.now ++ 10 ∷ x.1.now) × (avoids 10 x.0.now ≡ true)) }
-    ensures shorter { IfOk result (λ x. length x.1.now + 1 ≤ length rest.now) }
-    ensures err { IfErr result (λ e. (e ≡ Line line) × (avoids 10 rest.now ≡ true)) }
+/// The next line and what follows it, where there is a whole line.
+fn next_line(rest: &[u8]) -> Option<(&[u8], &[u8])>
+    ensures some { IfSome result (λ x. rest.now ≡ x.0.now ++ 10 ∷ x.1.now) }
+    ensures first { IfSome result (λ x. avoids 10 x.0.now ≡ true) }
+    ensures shorter { IfSome result (λ x. length x.1.now + 1 ≤ length rest.now) }
+    ensures none { IfNone result (avoids 10 rest.now ≡ true) }
 {
-    match split_at_first(rest, b'\n') {
-        Some(parts) => Ok(parts),
-        None => Err(AnswerFault::Line(line)),
-    }
+    split_at_first(rest, b'\n')
 }
 
 /// Prime, class, rank and order, and what follows them.
@@ -76,23 +73,42 @@ fn read_head(bytes: &[u8]) -> Result<(Head, &[u8]), AnswerFault>
     ensures limit { IfOk result (λ x. x.0.rank ≤ 100) }
     ensures err { IfErr result (IsBadAt for_prime bytes.now 1) }
 {
-    let (line, rest) = next_line(bytes, 1)?;
+    let Some((line, rest)) = next_line(bytes) else {
+        return Err(AnswerFault::Line(1));
+    };
     let Some(prime) = prime_line(line) else {
         return Err(AnswerFault::Line(1));
     };
-    let (line, rest) = next_line(rest, 2)?;
-    if class_line(line).is_none() {
+    let (rank, rest) = read_size(prime, rest)?;
+    Ok((Head { prime, rank }, rest))
+}
+
+/// Class, rank and order, and what follows them.
+fn read_size(prime: Prime, text: &[u8]) -> Result<(u16, &[u8]), AnswerFault>
+    ensures ok { IfOk result (λ x. IsSize (prime_value prime) x.0 text.now x.1.now) }
+    ensures shorter { IfOk result (λ x. length x.1.now + 3 ≤ length text.now) }
+    ensures limit { IfOk result (λ x. x.0 ≤ 100) }
+    ensures err { IfErr result (IsBadAt (for_class (prime_value prime)) text.now 2) }
+{
+    let Some((line, rest)) = next_line(text) else {
         return Err(AnswerFault::Line(2));
-    }
-    let (line, rest) = next_line(rest, 3)?;
+    };
+    let Some(_class) = class_line(line) else {
+        return Err(AnswerFault::Line(2));
+    };
+    let Some((line, rest)) = next_line(rest) else {
+        return Err(AnswerFault::Line(3));
+    };
     let Some(rank) = rank_line(line) else {
         return Err(AnswerFault::Line(3));
     };
-    let (line, rest) = next_line(rest, 4)?;
+    let Some((line, rest)) = next_line(rest) else {
+        return Err(AnswerFault::Line(4));
+    };
     if !is_order_line(line, prime.value(), rank) {
         return Err(AnswerFault::Line(4));
     }
-    Ok((Head { prime, rank }, rest))
+    Ok((rank, rest))
 }
 
 /// The weights and the sources of the generators, and what follows their lines.
@@ -110,11 +126,13 @@ fn read_generators<'a>(
     let mut weights = Vec::new(alloc);
     let mut sources = Vec::new(alloc);
     let mut rest = text;
+    let prime = head.prime.value();
     for k in 0..head.rank {
         let number = u32::from(k) + 5;
-        let (line, more) = next_line(rest, number)?;
-        let Some((weight, source)) = generator_line(line, k + 1, head.prime.value(), head.rank)
-        else {
+        let Some((line, more)) = next_line(rest) else {
+            return Err(AnswerFault::Line(number));
+        };
+        let Some((weight, source)) = generator_line(line, k + 1, prime, head.rank) else {
             return Err(AnswerFault::Line(number));
         };
         add_generator(&mut weights, &mut sources, weight, source)?;
@@ -128,7 +146,10 @@ fn add_generator(
     sources: &mut Vec<Source>,
     weight: u8,
     source: Source,
-) -> Result<(), NoMemory> {
+) -> Result<(), NoMemory>
+    ensures weights { OnOk result (weights.new.items ≡ weights.old.items ++ weight ∷ []) }
+    ensures sources { OnOk result (sources.new.items ≡ sources.old.items ++ source ∷ []) }
+{
     weights.push(weight)?;
     sources.push(source)?;
     Ok(())
@@ -161,19 +182,22 @@ fn read_body(body: &mut Body, head: Head, text: &[u8]) -> Result<u32, AnswerFaul
     requires limit { length text.now + head.rank + 4 < 2 ^ 32 - 1 }
 {
     let mut number = u32::from(head.rank) + 5;
-    let (mut line, mut rest) = next_line(text, number)?;
-    while !matches!(line, [b'e', b'n', b'd']) {
+    let mut rest = text;
+    while let Some((line, more)) = next_line(rest) {
+        if matches!(line, [b'e', b'n', b'd']) {
+            return if more.is_empty() {
+                Ok(number)
+            } else {
+                Err(AnswerFault::Line(number + 1))
+            };
+        }
         if !add_line(body, head, line)? {
             return Err(AnswerFault::Line(number));
         }
         number += 1;
-        (line, rest) = next_line(rest, number)?;
+        rest = more;
     }
-    if rest.is_empty() {
-        Ok(number)
-    } else {
-        Err(AnswerFault::Line(number + 1))
-    }
+    Err(AnswerFault::Line(number))
 }
 
 /// Adds what a line says, and says whether it has the form of a relation or an image in its place.

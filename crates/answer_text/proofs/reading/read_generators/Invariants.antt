@@ -9,7 +9,7 @@ abbrev pub invariant-loop-k : goal.invariant-loop-k
 invariant-loop-k l = record {
   weights : length l.weights.items ≡ l.k;
   sources : length l.sources.items ≡ l.k;
-  shorter : length l.rest + l.k ≤ length l.fn.text.now;
+  shorter : length l.rest + l.k ≤ length l.fn.text;
   legible : AreSources l.head.rank l.weights.items l.sources.items;
-  lines : l.fn.text.now ≡ text_of_lines (source_lines (prime_value l.head.prime) 0 l.weights.items l.sources.items) ++ l.rest;
+  lines : l.fn.text ≡ text_of_lines (source_lines (prime_value l.head.prime) 0 l.weights.items l.sources.items) ++ l.rest;
 }

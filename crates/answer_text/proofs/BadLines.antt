@@ -10,7 +10,9 @@ use Rattle.answer_text.specs.AnswerPlaces.{Place, HasForm, IsScale, IsSource, pr
 use Rattle.answer_text.specs.AnswerPlaces.Place.{for_prime, for_class, for_rank, for_order, in_body, at_end}
 use Rattle.answer_text.specs.AnswerPlaces.HasForm.{prime, class, rank, order, generator, relation, image, last}
 use Rattle.answer_text.specs.AnswerFaults.{IsWhole, IsFirstBad}
-use Rattle.answer_text.specs.ReadSoFar.{source_lines, AreSources}
+use Rattle.answer_text.specs.declared.fault.AnswerFault.{AnswerFault}
+use Rattle.answer_text.specs.declared.fault.AnswerFault.TheVariants.{Line, NoMemory}
+use Rattle.answer_text.specs.ReadSoFar.{IsBadAt, source_lines, AreSources}
 use Rattle.answer_text.proofs.LineLaws.{text_of_lines-append}
 use Rattle.answer_text.proofs.Splits.{nil-split, split-same}
 use Rattle.answer_text.proofs.PieceTexts.{avoids-not}
@@ -146,3 +148,8 @@ pub text-push : (ls : List (List ℕ)) (l text rest more : List ℕ) → text �
 text-push ls l text rest more e cut =
     e ∙ ap (λ (x : List ℕ). text_of_lines ls ++ x) cut ∙ sym (ap (λ (x : List ℕ). x ++ more) (text_of_lines-append ls (l ∷ []))
     ∙ append_assoc (text_of_lines ls) (l ++ 10 ∷ []) more ∙ ap (λ (x : List ℕ). text_of_lines ls ++ x) (append_assoc l (10 ∷ []) more))
+
+-- the same fault, seen from a line before
+pub IsBadAt-before : (P Q : Place) (l rest bytes : List ℕ) (first : ℕ) (f : AnswerFault) → HasForm P l Q → bytes ≡ l ++ 10 ∷ rest → IsBadAt Q rest (suc first) f → IsBadAt P bytes first f
+IsBadAt-before P Q l rest bytes first (Line n) form e bad = (suc bad.0, omega (arith, bad.1), IsFirstBad-step P Q l rest bytes bad.0 form e bad.2)
+IsBadAt-before P Q l rest bytes first NoMemory form e bad = tt

@@ -26,3 +26,4 @@ mod RelationAppends
 mod AnswerRead
 mod LineTexts
 mod BadLines
+mod GeneratorsRead

@@ -16,6 +16,10 @@ pub IfNone-then : {X : Type 0} (o : Option X) (P Q : Type 0) → IfNone o P → 
 IfNone-then None P Q h f = f h
 IfNone-then (Some x) P Q h f = tt
 
+pub IfNone-at : {X : Type 0} (o : Option X) (P : Type 0) → o ≡ None → IfNone o P → P
+IfNone-at None P e h = h
+IfNone-at (Some x) P e h = cc
+
 pub avoids-not : (c : ℕ) (xs ys : List ℕ) → avoids c (xs ++ c ∷ ys) ≡ true → ⊥
 avoids-not c [] ys h = (avoids-parts c c ys h).0 refl
 avoids-not c (x ∷ xs) ys h = avoids-not c xs ys (avoids-parts c x (xs ++ c ∷ ys) h).1

@@ -1,6 +1,6 @@
 //! Reading an answer's text, a line at a time.
 
-ghost use Rattle.std.specs.Prelude.{◌≡◌, ◌<◌, ◌≤◌, ◌+◌, ◌-◌, ◌^◌, ◌∷◌, ◌++◌, true, [], length, IfOk, IfErr, IfSome, IfNone, OnOk};
+ghost use Rattle.std.specs.Prelude.{◌≡◌, ◌<◌, ◌≤◌, ◌+◌, ◌-◌, ◌^◌, ◌∷◌, ◌++◌, true, [], length, IfOk, IfErr, IfSome, IfNone, OnOk, IsTrue, ◌↔◌};
 ghost use Rattle.pq_base.specs.Prime.{prime_value};
 ghost use Rattle.answer_text.specs.Lines.{avoids, text_of_lines};
 ghost use Rattle.answer_text.specs.AnswerText.{answer_text};
@@ -43,10 +43,17 @@ pub fn read_answer(alloc: Global, bytes: &[u8]) -> Result<Answer, AnswerFault>
         return Err(AnswerFault::Line(end));
     };
     // the class, and the names in the definitions, are compared with what they are to be
-    if text(alloc, &answer)?.as_slice() != bytes {
+    let written = text(alloc, &answer)?;
+    if !are_same(bytes, &written) {
         return Err(AnswerFault::Line(end));
     }
     Ok(answer)
+}
+
+fn are_same(left: &[u8], right: &[u8]) -> bool
+    ensures { IsTrue result ↔ (left.now ≡ right.now) }
+{
+    left == right
 }
 
 /// What the first lines say.
@@ -79,8 +86,10 @@ fn read_head(bytes: &[u8]) -> Result<(Head, &[u8]), AnswerFault>
     let Some(prime) = prime_line(line) else {
         return Err(AnswerFault::Line(1));
     };
-    let (rank, rest) = read_size(prime, rest)?;
-    Ok((Head { prime, rank }, rest))
+    match read_size(prime, rest) {
+        Ok((rank, rest)) => Ok((Head { prime, rank }, rest)),
+        Err(fault) => Err(fault),
+    }
 }
 
 /// Class, rank and order, and what follows them.

@@ -36,4 +36,4 @@ loop-rest-preserved c =
 pub returns-clause-some : goal.returns-clause-some
 returns-clause-some c =
     HasRead-end c.args.prime c.args.rank c.args.after c.args.text.now c.loop-rest.last c.loop-rest.word.items
-    (subst (λ (x : Option (Bor (List ℕ))). HasRead c.args.prime c.args.rank c.args.after c.args.text.now c.loop-rest.last c.loop-rest.word.items (option_map (λ t. t.now) x)) c.in_default.is c.loop-rest.invariant)
+    (subst (λ (x : Option (Bor (List ℕ))). HasRead c.args.prime c.args.rank c.args.after c.args.text.now c.loop-rest.last c.loop-rest.word.items (option_map (λ t. t.now) x)) c.in_default-rest.is c.loop-rest.invariant)

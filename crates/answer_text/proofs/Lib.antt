@@ -27,3 +27,4 @@ mod AnswerRead
 mod LineTexts
 mod BadLines
 mod GeneratorsRead
+mod RelationAdded

@@ -1,9 +1,8 @@
 -- The lines of an answer all have the form of a line in their place, up to the end.
-use Rattle.std.proofs.Common.{◌≡◌, ◌<◌, ◌≤◌, ◌+◌, ◌*◌, ℕ, zero, suc, List, [], ◌∷◌, ◌++◌, get_or, length, refl, ap, sym, subst, ◌∙◌, inl, inr, arith}
+use Rattle.std.proofs.Common.{◌≡◌, ◌<◌, ◌≤◌, ◌+◌, ◌*◌, ℕ, zero, suc, List, [], ◌∷◌, ◌++◌, get_or, length, refl, sym, subst, inl, inr, arith}
 use Rattle.std.specs.Prelude.{codes}
 use Rattle.pq_base.specs.Name.{IsName}
 use Rattle.pq_base.specs.Table.{AllBelow}
-use Rattle.pq_base.specs.Presentation.{Presentation, IsPresentation, power_side, commutator_side}
 use Rattle.pq_base.specs.Answer.{Answer, Definition, HasDefinition, AreWeights, AreNormal, class_of, last_or_zero, definition_at}
 use Rattle.pq_base.specs.Answer.Definition.{image, commutator, power}
 use Rattle.pc_presentation.specs.declared.syllable.Syllable.{Syllable}

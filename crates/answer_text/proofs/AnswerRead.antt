@@ -1,12 +1,11 @@
 -- What was read of an answer's text is the answer: the text tells each part that the reader takes from it.
-use Rattle.std.proofs.Common.{◌≡◌, ◌<◌, ◌≤◌, ◌+◌, ℕ, zero, suc, List, [], ◌∷◌, ◌++◌, get_or, length, map, refl, ap, ap₂, sym, subst, ◌∙◌, arith}
-use Rattle.std.specs.Prelude.{codes}
+use Rattle.std.proofs.Common.{◌≡◌, ◌<◌, ◌≤◌, ℕ, zero, suc, List, [], ◌∷◌, ◌++◌, get_or, length, map, refl, ap, sym, subst, ◌∙◌, arith}
 use Rattle.pq_base.specs.Presentation.{Presentation, IsPresentation}
 use Rattle.pq_base.specs.Answer.{Answer, Definition, HasDefinition, AreWeights, AreNormal, class_of, definition_at}
 use Rattle.pq_base.specs.Answer.Definition.{image, commutator, power}
 use Rattle.answer_text.specs.declared.source.Source.{Source}
 use Rattle.answer_text.specs.Lines.{text_of_lines}
-use Rattle.answer_text.specs.AnswerText.{answer_text, head_lines, generator_lines, power_text, power_lines, commutator_text, commutator_lines}
+use Rattle.answer_text.specs.AnswerText.{answer_text, head_lines, power_text, power_lines, commutator_text, commutator_lines}
 use Rattle.answer_text.specs.OneText.{AreNames, IsWritable}
 use Rattle.answer_text.specs.AnswerPlaces.{IsScale, IsSource}
 use Rattle.answer_text.proofs.AnswerLines.{answer_text-parts}

@@ -1,5 +1,5 @@
 -- Where a line that was read has no form in its place, it is the first bad line.
-use Rattle.std.proofs.Common.{◌≡◌, ◌<◌, ◌≤◌, ◌+◌, ◌-◌, ℕ, zero, suc, true, List, [], ◌∷◌, ◌++◌, length, refl, ap, sym, subst, ◌∙◌, inl, inr, arith, append_assoc}
+use Rattle.std.proofs.Common.{◌≡◌, ◌<◌, ◌≤◌, ◌+◌, ◌-◌, ℕ, suc, true, List, [], ◌∷◌, ◌++◌, length, refl, ap, sym, subst, ◌∙◌, inl, inr, arith, append_assoc}
 use Rattle.pq_base.specs.declared.prime.Prime.{Prime}
 use Rattle.pq_base.specs.declared.prime.Prime.TheVariants.{P2, P3, P5, P7}
 use Rattle.pq_base.specs.Prime.{IsOffered, prime_value}
@@ -8,7 +8,7 @@ use Rattle.answer_text.specs.Lines.{avoids, text_of_lines}
 use Rattle.answer_text.specs.AnswerText.{head_lines}
 use Rattle.answer_text.specs.AnswerPlaces.{Place, HasForm, IsScale, IsSource, prime_line, class_line, rank_line, order_line, source_line}
 use Rattle.answer_text.specs.AnswerPlaces.Place.{for_prime, for_class, for_rank, for_order, in_body, at_end}
-use Rattle.answer_text.specs.AnswerPlaces.HasForm.{prime, class, rank, order, generator, relation, image, last}
+use Rattle.answer_text.specs.AnswerPlaces.HasForm.{prime, class, rank, order, generator}
 use Rattle.answer_text.specs.AnswerFaults.{IsWhole, IsFirstBad}
 use Rattle.answer_text.specs.declared.fault.AnswerFault.{AnswerFault}
 use Rattle.answer_text.specs.declared.fault.AnswerFault.TheVariants.{Line, NoMemory}

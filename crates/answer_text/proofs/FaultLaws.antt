@@ -1,9 +1,9 @@
 -- Bytes have their first fault at one line only: lines are read in one way, so a line that has its form leads on.
-use Rattle.std.proofs.Common.{◌≡◌, ◌<◌, ◌≤◌, ◌+◌, ℕ, zero, suc, List, [], ◌∷◌, ◌++◌, refl, ap, sym, subst, ◌∙◌, ◌⊎◌, inl, inr, arith}
+use Rattle.std.proofs.Common.{◌≡◌, ◌≤◌, ℕ, zero, suc, List, [], ◌∷◌, ◌++◌, refl, ap, sym, subst, ◌∙◌, inl, inr, arith}
 use native.Mathlib.Decide.{dec_lt}
 use Rattle.answer_text.specs.AnswerPlaces.{Place, HasForm}
 use Rattle.answer_text.specs.AnswerPlaces.Place.{for_prime, at_end}
-use Rattle.answer_text.specs.AnswerFaults.{Begins, IsWhole, IsFirstBad, IsFaultLine, IsAnswerText, OneFaultLine}
+use Rattle.answer_text.specs.AnswerFaults.{Begins, IsWhole, IsFirstBad, OneFaultLine}
 use Rattle.answer_text.proofs.Splits.{nil-split, split-same}
 use Rattle.answer_text.proofs.FormLaws.{avoids-form, form-same}
 

@@ -1,8 +1,7 @@
 -- A line that has the form of a line in its place has no newline in it, and leads to one place only.
-use Rattle.std.proofs.Common.{◌≡◌, ◌<◌, ◌≤◌, ◌+◌, ◌*◌, ◌^◌, ℕ, zero, suc, true, List, [], ◌∷◌, ◌++◌, length, drop, decimal, refl, ap, ap₂, sym, ◌∙◌, inl, inr, arith, append_assoc}
+use Rattle.std.proofs.Common.{◌≡◌, ◌<◌, ◌≤◌, ℕ, zero, suc, true, List, [], ◌∷◌, ◌++◌, drop, decimal, refl, ap, ap₂, sym, ◌∙◌, inl, inr, arith}
 use Rattle.std.specs.Prelude.{codes}
 use Rattle.std.proofs.lemmas.Fmt.{decimal_injective}
-use Rattle.pq_base.specs.Name.{IsName}
 use Rattle.pq_base.specs.Prime.{IsOffered}
 use Rattle.pc_presentation.specs.declared.syllable.Syllable.{Syllable}
 use Rattle.pc_presentation.specs.declared.relation.Relation.{Relation}
@@ -12,9 +11,8 @@ use Rattle.pc_presentation.specs.Relation.{IsRelation}
 use Rattle.answer_text.specs.declared.source.Source.{Source}
 use Rattle.answer_text.specs.declared.source.Source.TheVariants.{Image, RightSide}
 use Rattle.answer_text.specs.Words.{word_text}
-use Rattle.answer_text.specs.AnswerText.{power_text, commutator_text}
-use Rattle.answer_text.specs.AnswerPlaces.{Place, HasForm, IsScale, IsSource, left_text, source_text, order_of, relation_line, word_line}
-use Rattle.answer_text.specs.AnswerPlaces.Place.{for_prime, for_class, for_rank, for_order, in_body, at_end}
+use Rattle.answer_text.specs.AnswerPlaces.{Place, HasForm, IsSource, left_text, source_text, order_of}
+use Rattle.answer_text.specs.AnswerPlaces.Place.{for_class, for_order, in_body}
 use Rattle.answer_text.specs.AnswerPlaces.HasForm.{prime, class, rank, order, generator, relation, image, last}
 use Rattle.answer_text.proofs.Splits.{first-apart, avoids, avoids-append, avoids-decimal, decimal-same}
 use Rattle.answer_text.proofs.WordTexts.{AreWritten, avoids-word}

@@ -1,5 +1,5 @@
 -- A line of a generator more is read.
-use Rattle.std.proofs.Common.{◌≡◌, ◌<◌, ◌≤◌, ◌+◌, ℕ, suc, List, [], ◌∷◌, ◌++◌, length, ap, ap₂, sym, subst, ◌∙◌, arith, length-append}
+use Rattle.std.proofs.Common.{◌≡◌, ◌≤◌, ◌+◌, ℕ, List, [], ◌∷◌, ◌++◌, length, ap, ap₂, sym, subst, ◌∙◌, arith, length-append}
 use Rattle.answer_text.specs.declared.source.Source.{Source}
 use Rattle.answer_text.specs.Lines.{text_of_lines}
 use Rattle.answer_text.specs.AnswerPlaces.{IsSource, source_line}

@@ -28,3 +28,4 @@ mod LineTexts
 mod BadLines
 mod GeneratorsRead
 mod RelationAdded
+mod FaultsOfParts

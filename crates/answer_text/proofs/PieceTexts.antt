@@ -1,11 +1,11 @@
 -- What the text of a piece tells of the places at which it is split.
-use Rattle.std.proofs.Common.{◌≡◌, ◌<◌, ◌≤◌, ◌+◌, ◌^◌, ℕ, zero, suc, Bool, true, false, List, [], ◌∷◌, ◌++◌, drop, decimal, refl, ap, sym, ◌∙◌, arith, append-nil}
+use Rattle.std.proofs.Common.{◌≡◌, ◌<◌, ◌≤◌, ℕ, zero, suc, true, false, List, [], ◌∷◌, ◌++◌, decimal, refl, ap, sym, ◌∙◌, arith, append-nil}
 use Rattle.std.specs.Prelude.{Option, Some, None, IfNone}
 use Rattle.std.proofs.lemmas.Fmt.{decimal_injective}
 use Rattle.pc_presentation.specs.declared.syllable.Syllable.{Syllable}
 use Rattle.answer_text.specs.Numbers.{is_digit}
 use Rattle.answer_text.specs.Words.{exponent_text, IsWritten}
-use Rattle.answer_text.proofs.Splits.{avoids, avoids-parts, avoids-decimal, split-same, decimal-same, IsNoDigit}
+use Rattle.answer_text.proofs.Splits.{avoids, avoids-parts, avoids-decimal, split-same, decimal-same}
 use Rattle.answer_text.proofs.NumberTexts.{IsNoDigit-is_digit}
 
 pub IfNone-of : {X : Type 0} (o : Option X) (P : Type 0) → P → IfNone o P

@@ -1,5 +1,5 @@
 -- A relation behind all that were given adds its line, and no relation behind it is given.
-use Rattle.std.proofs.Common.{◌≡◌, ◌<◌, ◌≤◌, ◌+◌, ◌-◌, ◌*◌, ℕ, zero, suc, List, [], ◌∷◌, ◌++◌, get_or, length, slice_set, refl, ap, ap₂, sym, subst, ◌∙◌, arith, append_assoc, append-nil}
+use Rattle.std.proofs.Common.{◌≡◌, ◌<◌, ◌≤◌, ◌+◌, ◌-◌, ◌*◌, ℕ, suc, List, [], ◌∷◌, ◌++◌, get_or, length, slice_set, refl, ap, ap₂, sym, subst, ◌∙◌, arith, append_assoc, append-nil}
 use Rattle.pq_base.specs.Presentation.{Presentation}
 use Rattle.pc_presentation.specs.declared.syllable.Syllable.{Syllable}
 use Rattle.pc_presentation.specs.declared.relation.Relation.{Relation}
@@ -38,12 +38,15 @@ relation-added p n last P (Power i) w limit shape blank is rises some a =
     let lines = power_lines-set p 0 (i - 1) i P.powers e (omega arith) (omega arith) free in
     let none : commutator_lines 0 P.commutators ≡ [] = rows-blank 0 last P.commutators (omega arith) blank.1 in
     let line : relation_lines (power_text p i) (syllables_of i e) ≡ relation_line p (Power i) w ∷ [] = ap (λ (v : List Syllable). relation_lines (power_text p i) v) word ∙ one-line p (Power i) w some in
-    let next : suc (i - 1) ≡ i = omega arith in
-    (ap₂ (λ (s t : List (List ℕ)). s ++ t) (lines ∙ ap (λ (t : List (List ℕ)). power_lines p 0 P.powers ++ t) line) none
-    ∙ append-nil (power_lines p 0 P.powers ++ relation_line p (Power i) w ∷ [])
-    ∙ ap (λ (t : List (List ℕ)). t ++ relation_line p (Power i) w ∷ []) (sym (append-nil (power_lines p 0 P.powers)) ∙ ap (λ (t : List (List ℕ)). power_lines p 0 P.powers ++ t) (sym none)),
-    (subst (λ (x : ℕ). PowersBlank 0 x (slice_set P.powers (i - 1) e)) next (PowersBlank-set 0 (i - 1) P.powers e free),
-    RowsBlank-later 0 last i P.commutators (omega arith) blank.1))
+    let next : suc (i - 1) ≡ i = omega arith in (
+      ap₂ (λ (s t : List (List ℕ)). s ++ t) (lines ∙ ap (λ (t : List (List ℕ)). power_lines p 0 P.powers ++ t) line) none
+          ∙ append-nil (power_lines p 0 P.powers ++ relation_line p (Power i) w ∷ [])
+          ∙ ap (λ (t : List (List ℕ)). t ++ relation_line p (Power i) w ∷ []) (sym (append-nil (power_lines p 0 P.powers)) ∙ ap (λ (t : List (List ℕ)). power_lines p 0 P.powers ++ t) (sym none)),
+      (
+        subst (λ (x : ℕ). PowersBlank 0 x (slice_set P.powers (i - 1) e)) next (PowersBlank-set 0 (i - 1) P.powers e free),
+        RowsBlank-later 0 last i P.commutators (omega arith) blank.1,
+      ),
+    )
 relation-added p n last P (Commutator j i) w limit shape blank is rises some a =
     let count : length P.commutators ≡ n = shape.row_count in
     let one : 1 ≤ i = is.0 in
@@ -53,7 +56,8 @@ relation-added p n last P (Commutator j i) w limit shape blank is rises some a =
     let e : List ℕ = spread (n - j) j w in
     let word : syllables_of j e ≡ w = syllables_of-spread p n (n - j) j w (omega arith) a in
     let rows = commutator_lines-set 0 (j - 1) (i - 1) j i last P.commutators e (omega arith) (omega arith) (omega arith) (omega arith) (omega arith) (omega arith) blank.1 in
-    let line : relation_lines (commutator_text j i) (syllables_of j e) ≡ relation_line p (Commutator j i) w ∷ [] = ap (λ (v : List Syllable). relation_lines (commutator_text j i) v) word ∙ one-line p (Commutator j i) w some in
-    (ap (λ (t : List (List ℕ)). power_lines p 0 P.powers ++ t) (rows.0 ∙ ap (λ (t : List (List ℕ)). commutator_lines 0 P.commutators ++ t) line)
-    ∙ sym (append_assoc (power_lines p 0 P.powers) (commutator_lines 0 P.commutators) (relation_line p (Commutator j i) w ∷ [])),
-    (PowersBlank-later 0 last (1000 * j + i) P.powers (omega arith) blank.0, rows.1))
+    let line : relation_lines (commutator_text j i) (syllables_of j e) ≡ relation_line p (Commutator j i) w ∷ [] = ap (λ (v : List Syllable). relation_lines (commutator_text j i) v) word ∙ one-line p (Commutator j i) w some in (
+      ap (λ (t : List (List ℕ)). power_lines p 0 P.powers ++ t) (rows.0 ∙ ap (λ (t : List (List ℕ)). commutator_lines 0 P.commutators ++ t) line)
+          ∙ sym (append_assoc (power_lines p 0 P.powers) (commutator_lines 0 P.commutators) (relation_line p (Commutator j i) w ∷ [])),
+      (PowersBlank-later 0 last (1000 * j + i) P.powers (omega arith) blank.0, rows.1),
+    )

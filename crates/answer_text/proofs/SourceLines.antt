@@ -1,8 +1,7 @@
 -- The lines of generators, with named images, tell the weights and the definitions.
-use Rattle.std.proofs.Common.{◌≡◌, ◌<◌, ◌≤◌, ◌+◌, ◌-◌, ℕ, zero, suc, true, List, [], ◌∷◌, ◌++◌, get_or, length, drop, map, decimal, refl, ap, ap₂, sym, subst, ◌∙◌, arith, append_assoc}
+use Rattle.std.proofs.Common.{◌≡◌, ◌<◌, ◌≤◌, ◌+◌, ◌-◌, ℕ, zero, suc, List, [], ◌∷◌, ◌++◌, get_or, length, drop, map, decimal, refl, ap, ap₂, sym, ◌∙◌, arith, append_assoc}
 use Rattle.std.specs.Prelude.{codes}
 use Rattle.std.proofs.lemmas.List.{append_cancel_left}
-use native.Mathlib.Decide.{dec_lt}
 use Rattle.pq_base.specs.LPresentation.{AreDistinct}
 use Rattle.pq_base.specs.Answer.{Definition}
 use Rattle.pq_base.specs.Answer.Definition.{image, commutator, power}
@@ -11,14 +10,14 @@ use Rattle.pc_presentation.specs.declared.relation.Relation.TheVariants.{Power, 
 use Rattle.answer_text.specs.declared.source.Source.{Source}
 use Rattle.answer_text.specs.declared.source.Source.TheVariants.{Image, RightSide}
 use Rattle.answer_text.specs.Lines.{text_of_lines}
-use Rattle.answer_text.specs.AnswerText.{generator_line, generator_lines, power_text, commutator_text}
-use Rattle.answer_text.specs.AnswerPlaces.{Place, HasForm, IsScale, IsSource, left_text, source_text, source_line}
+use Rattle.answer_text.specs.AnswerText.{generator_line, generator_lines}
+use Rattle.answer_text.specs.AnswerPlaces.{HasForm, IsScale, IsSource, source_text, source_line}
 use Rattle.answer_text.specs.AnswerPlaces.Place.{in_body}
 use Rattle.answer_text.specs.AnswerPlaces.HasForm.{generator}
-use Rattle.answer_text.specs.Sources.{Resolves, FindsName}
+use Rattle.answer_text.specs.Sources.{Resolves}
 pub use Rattle.answer_text.specs.ReadSoFar.{source_lines, AreSources}
-use Rattle.answer_text.proofs.Splits.{first-apart, avoids, split-same, decimal-same}
-use Rattle.answer_text.proofs.FormLaws.{offered-small, avoids-form, left_text-same}
+use Rattle.answer_text.proofs.Splits.{first-apart, split-same, decimal-same}
+use Rattle.answer_text.proofs.FormLaws.{avoids-form, left_text-same}
 use Rattle.answer_text.proofs.GeneratorsTold.{place-same}
 
 pub source_lines-push : (p k j : ℕ) (ws : List ℕ) (ss : List Source) (w : ℕ) (s : Source) → length ss ≡ length ws → j ≡ suc (k + length ws)

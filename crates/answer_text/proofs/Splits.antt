@@ -1,6 +1,6 @@
 -- A text is split at a byte in one way only, where what stands before the byte has none of its kind. So decimal numbers
 -- that a byte ends are told apart.
-use Rattle.std.proofs.Common.{◌≡◌, ◌≢◌, ◌<◌, ◌+◌, ◌%◌, ◌^◌, ℕ, suc, Bool, true, false, cond, eqb, List, [], ◌∷◌, ◌++◌, get_or, length, drop, decimal, refl, ap, ap₂, sym, arith}
+use Rattle.std.proofs.Common.{◌≡◌, ◌≢◌, ◌<◌, ◌+◌, ◌%◌, ◌^◌, ℕ, suc, true, false, cond, eqb, List, [], ◌∷◌, ◌++◌, get_or, length, drop, decimal, refl, ap, ap₂, sym, arith}
 use Rattle.std.proofs.lemmas.List.{length-append}
 use Rattle.std.proofs.lemmas.Fmt.{decimal_injective, decimal_by_steps}
 use borrow.Author.Tests.{eqb-true, eqb-false}

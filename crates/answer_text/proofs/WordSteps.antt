@@ -1,9 +1,9 @@
 -- A word is read from its text syllable by syllable, and in one way only.
-use Rattle.std.proofs.Common.{◌≡◌, ◌<◌, ◌≤◌, ℕ, zero, suc, true, List, [], ◌∷◌, ◌++◌, length, refl, ap, sym, subst, ◌∙◌, arith, append_assoc, append-nil, Bor}
+use Rattle.std.proofs.Common.{◌≡◌, ◌<◌, ◌≤◌, ℕ, true, List, [], ◌∷◌, ◌++◌, length, refl, ap, sym, subst, ◌∙◌, arith, append_assoc, append-nil, Bor}
 use Rattle.std.specs.Prelude.{codes, Option, Some, None, MatchOption, option_map}
 use Rattle.pc_presentation.specs.declared.syllable.Syllable.{Syllable}
 use Rattle.pc_presentation.specs.Syllable.{AreSyllables}
-use Rattle.answer_text.specs.Words.{syllable_text, further_text, word_text, IsWritten}
+use Rattle.answer_text.specs.Words.{syllable_text, word_text, IsWritten}
 use Rattle.answer_text.proofs.Splits.{avoids, split-same}
 use Rattle.answer_text.proofs.WordTexts.{star, avoids-syllable, syllable_text-same}
 use Rattle.answer_text.proofs.PieceTexts.{avoids-not}

@@ -1,7 +1,7 @@
 -- The lines of an answer's text one by one: which lines may stand at which place, with numbers in range and relations
 -- rising. What a whole answer wants beyond that, as distinct names, is no matter of the lines' form.
 -- From: this project's own format.
-use Rattle.std.specs.Prelude.{◌≡◌, ◌<◌, ◌≤◌, ◌+◌, ◌*◌, ℕ, zero, suc, List, [], ◌∷◌, ◌++◌, length, codes, decimal}
+use Rattle.std.specs.Prelude.{◌≡◌, ◌<◌, ◌≤◌, ◌+◌, ◌*◌, ℕ, zero, suc, List, ◌++◌, length, codes, decimal}
 use Rattle.pq_base.specs.Name.{IsName}
 use Rattle.pq_base.specs.Prime.{IsOffered}
 use Rattle.pc_presentation.specs.declared.syllable.Syllable.{Syllable}

@@ -1,5 +1,5 @@
 -- Definitions by a number in place of a name.
-use Rattle.std.specs.Prelude.{◌≡◌, ◌<◌, ◌≤◌, ◌-◌, ℕ, suc, List, [], get_or, length}
+use Rattle.std.specs.Prelude.{◌≡◌, ◌<◌, ◌≤◌, ◌-◌, ℕ, List, [], get_or, length}
 use Rattle.pq_base.specs.Answer.{Definition}
 use Rattle.pq_base.specs.Answer.Definition.{image, commutator, power}
 use Rattle.pc_presentation.specs.declared.relation.Relation.TheVariants.{Power, Commutator}

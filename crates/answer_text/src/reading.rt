@@ -4,6 +4,7 @@ ghost use Rattle.std.specs.Prelude.{◌≡◌, ◌<◌, ◌≤◌, ◌+◌, ◌-
 ghost use Rattle.pq_base.specs.Prime.{prime_value};
 ghost use Rattle.answer_text.specs.Lines.{avoids, text_of_lines};
 ghost use Rattle.answer_text.specs.AnswerText.{answer_text};
+ghost use Rattle.answer_text.specs.AnswerPlaces.{order_of};
 ghost use Rattle.answer_text.specs.AnswerPlaces.Place.{for_prime, for_class, in_body};
 ghost use Rattle.answer_text.specs.ReadSoFar.{IsBadAt, IsHead, IsSize, source_lines, AreSources};
 
@@ -178,7 +179,9 @@ struct Body {
 const BEHIND_RELATIONS: u32 = 1_000_000;
 
 /// The place of a relation in the order of all: the powers, then the commutators.
-fn place(relation: Relation) -> u32 {
+fn place(relation: Relation) -> u32
+    ensures { result ≡ order_of relation }
+{
     match relation {
         Relation::Power(i) => u32::from(i),
         Relation::Commutator(j, i) => 1000 * u32::from(j) + u32::from(i),

@@ -1,4 +1,4 @@
-use Rattle.std.proofs.Common.{◌≡◌, ◌<◌, ◌≤◌, ℕ, List, drop, decimal, ap, sym, ◌∙◌, arith}
+use Rattle.std.proofs.Common.{◌≡◌, ℕ, List, drop, decimal, ap, sym, ◌∙◌, arith}
 use Rattle.answer_text.proofs.PieceTexts.{number-same}
 use Rattle.answer_text.proofs.line_reading.class_line.Goals as goal
 

@@ -1,6 +1,6 @@
-use Rattle.std.proofs.Common.{◌≡◌, ◌<◌, ◌≤◌, ℕ, List, ap, sym, ◌∙◌, arith}
+use Rattle.std.proofs.Common.{◌≡◌, ◌≤◌, ℕ, sym, ◌∙◌, arith}
 use Rattle.answer_text.specs.declared.source.Source.{Source}
-use Rattle.answer_text.specs.AnswerPlaces.{IsSource, source_line, source_text, generator_start}
+use Rattle.answer_text.specs.AnswerPlaces.{IsSource, source_line, source_text}
 use Rattle.answer_text.proofs.PieceTexts.{IfNone-of}
 use Rattle.answer_text.proofs.LineTexts.{generator_start-same}
 use Rattle.answer_text.proofs.line_reading.generator_line.Goals as goal

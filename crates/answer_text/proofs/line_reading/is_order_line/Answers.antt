@@ -1,4 +1,4 @@
-use Rattle.std.proofs.Common.{◌≡◌, ◌<◌, ◌≤◌, ◌^◌, ℕ, List, ap, ap₂, sym, ◌∙◌, arith}
+use Rattle.std.proofs.Common.{◌≡◌, ◌<◌, ℕ, ap₂, sym, ◌∙◌, arith}
 use borrow.Author.Tests.{eqb-true, eq-eqb}
 use Rattle.answer_text.specs.AnswerPlaces.{order_line}
 use Rattle.answer_text.proofs.LineTexts.{order_line-same}

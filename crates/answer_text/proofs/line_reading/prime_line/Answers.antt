@@ -1,4 +1,4 @@
-use Rattle.std.proofs.Common.{◌≡◌, ◌<◌, ◌≤◌, ◌++◌, ◌∷◌, ℕ, List, drop, decimal, ap, sym, subst, ◌∙◌, arith}
+use Rattle.std.proofs.Common.{◌≡◌, ◌<◌, ◌∷◌, ℕ, List, drop, decimal, ap, sym, subst, ◌∙◌, arith}
 use Rattle.pq_base.specs.Prime.{IsOffered}
 use Rattle.answer_text.specs.AnswerPlaces.{prime_line}
 use Rattle.answer_text.proofs.PieceTexts.{IfNone-then, number-same}

@@ -1,10 +1,9 @@
-use Rattle.std.proofs.Common.{◌≡◌, ◌<◌, ◌≤◌, ℕ, List, IfSome, length, subst, arith}
-use Rattle.std.specs.Prelude.{Option, Some, None}
+use Rattle.std.proofs.Common.{◌≡◌, ℕ, List, IfSome, length, subst, arith}
+use Rattle.std.specs.Prelude.{Option}
 use Rattle.std.specs.declared.vec.Vec.{Vec}
 use Rattle.std.specs.Global.{Global}
 use Rattle.pc_presentation.specs.declared.syllable.Syllable.{Syllable}
 use Rattle.pc_presentation.specs.Syllable.{AreSyllables}
-use Rattle.pc_presentation.specs.Relation.{side_start}
 use Rattle.answer_text.specs.Words.{word_text}
 use Rattle.answer_text.proofs.PieceTexts.{IfNone-at}
 use Rattle.answer_text.proofs.LineTexts.{no-relation-word, no-empty-word}

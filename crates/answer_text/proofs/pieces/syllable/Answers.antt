@@ -1,4 +1,4 @@
-use Rattle.std.proofs.Common.{◌≡◌, ◌<◌, ◌≤◌, ◌++◌, ◌∷◌, ℕ, List, drop, decimal, refl, ap, sym, ◌∙◌, arith}
+use Rattle.std.proofs.Common.{◌≡◌, ◌<◌, ◌++◌, ◌∷◌, ℕ, List, drop, decimal, ap, sym, ◌∙◌, arith}
 use Rattle.pc_presentation.specs.declared.syllable.Syllable.{Syllable}
 use Rattle.answer_text.specs.Words.{exponent_text, syllable_text, IsWritten}
 use Rattle.answer_text.proofs.PieceTexts.{IfNone-of, syllable-plain, syllable-power, number-same}

@@ -1,12 +1,10 @@
-use Rattle.std.proofs.Common.{◌≡◌, ◌<◌, ◌≤◌, ◌+◌, ◌-◌, ◌++◌, [], ◌∷◌, ℕ, List, length, ap, ap₂, sym, subst, ◌∙◌, arith, add-one, length-append}
+use Rattle.std.proofs.Common.{◌≡◌, ◌<◌, ◌≤◌, ◌+◌, ◌-◌, ℕ, List, length, ap, subst, ◌∙◌, arith}
 use Rattle.pq_base.specs.Prime.{prime_value}
 use Rattle.answer_text.specs.declared.source.Source.{Source}
-use Rattle.answer_text.specs.Lines.{text_of_lines}
 use Rattle.answer_text.specs.AnswerPlaces.{IsScale, IsSource, source_line}
 use Rattle.answer_text.specs.AnswerPlaces.Place.{in_body}
-use Rattle.answer_text.specs.ReadSoFar.{source_lines, AreSources}
 use Rattle.answer_text.proofs.GeneratorsRead.{length-push, legible-push, lines-push}
-use Rattle.answer_text.proofs.BadLines.{no-line, bad-line, open-body, offered-value, generators-bad, no-next-generator, text-push}
+use Rattle.answer_text.proofs.BadLines.{no-line, bad-line, open-body, offered-value, generators-bad, no-next-generator}
 use Rattle.answer_text.proofs.reading.read_generators.Goals as goal
 
 pub returns-in_default-clause-err : goal.returns-in_default-clause-err

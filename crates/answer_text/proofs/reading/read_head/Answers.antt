@@ -1,4 +1,4 @@
-use Rattle.std.proofs.Common.{◌≡◌, ◌+◌, ◌++◌, ◌∷◌, ℕ, List, ap, ◌∙◌, arith, append_assoc}
+use Rattle.std.proofs.Common.{ℕ, arith}
 use Rattle.pq_base.specs.Prime.{prime_value}
 use Rattle.answer_text.specs.AnswerPlaces.Place.{for_prime, for_class}
 use Rattle.answer_text.proofs.BadLines.{no-line, bad-line, no-prime, open-prime, offered-value, prime-form, IsBadAt-before}

@@ -1,4 +1,4 @@
-use Rattle.std.proofs.Common.{◌≡◌, ◌+◌, ◌++◌, ◌∷◌, ℕ, List, true, false, ap, sym, ◌∙◌, arith, append_assoc}
+use Rattle.std.proofs.Common.{◌≡◌, ℕ, true, false, ap, sym, ◌∙◌, arith}
 use Rattle.pq_base.specs.Prime.{prime_value}
 use Rattle.answer_text.specs.AnswerPlaces.{order_line}
 use Rattle.answer_text.specs.AnswerPlaces.Place.{for_class, for_rank, for_order}

@@ -1,5 +1,5 @@
-use Rattle.std.proofs.Common.{◌≡◌, ◌<◌, ◌≤◌, ◌++◌, [], ◌∷◌, ℕ, List, Bor, option_map, sym, subst, arith}
-use Rattle.std.specs.Prelude.{Option, Some, None}
+use Rattle.std.proofs.Common.{ℕ, List, Bor, option_map, sym, subst, arith}
+use Rattle.std.specs.Prelude.{Option, Some}
 use Rattle.pc_presentation.specs.declared.syllable.Syllable.{Syllable}
 use Rattle.answer_text.proofs.WordSteps.{HasRead, HasRead-next, HasRead-end, IsCut-of, no-syllable, no-further}
 use Rattle.answer_text.proofs.word_reading.word.Goals as goal

@@ -1,6 +1,6 @@
 use Rattle.std.proofs.Common.{ℕ, suc, length, option_map}
 use Rattle.std.specs.Prelude.{Option, Some, None}
-use Rattle.std.proofs.Common.{List, Bor}
+use Rattle.std.proofs.Common.{List}
 use Rattle.answer_text.proofs.WordSteps.{HasRead}
 use Rattle.answer_text.proofs.word_reading.word.Given as goal
 

@@ -14,6 +14,7 @@ use Rattle.answer_text.specs.AnswerText.{generator_line, generator_lines}
 use Rattle.answer_text.specs.AnswerPlaces.{HasForm, IsScale, IsSource, source_text, source_line}
 use Rattle.answer_text.specs.AnswerPlaces.Place.{in_body}
 use Rattle.answer_text.specs.AnswerPlaces.HasForm.{generator}
+pub use Rattle.answer_text.specs.Sources.{AreResolved}
 use Rattle.answer_text.specs.Sources.{Resolves}
 pub use Rattle.answer_text.specs.ReadSoFar.{source_lines, AreSources}
 use Rattle.answer_text.proofs.Splits.{first-apart, split-same, decimal-same}
@@ -82,13 +83,6 @@ source_of names (image (suc i)) = Image (get_or names i [])
 source_of names (commutator j i) = RightSide (Commutator j i)
 source_of names (power j) = RightSide (Power j)
 
--- each definition is the one that its source means
-abbrev pub AreResolved : List (List ℕ) → List Source → List Definition → Type 0
-AreResolved names [] [] = Unit {0}
-AreResolved names [] (d ∷ ds) = ⊥
-AreResolved names (s ∷ ss) [] = ⊥
-AreResolved names (s ∷ ss) (d ∷ ds) = Resolves names s d × AreResolved names ss ds
-
 -- a definition that its source tells
 abbrev pub IsKnown : List (List ℕ) → Definition → Type 0
 IsKnown names (image zero) = ⊥
@@ -131,3 +125,10 @@ generator_lines-sources p k names [] ds known = refl
 generator_lines-sources p k names (w ∷ ws) [] known = refl
 generator_lines-sources p k names (w ∷ ws) (d ∷ ds) known =
     ap₂ (λ (x : List ℕ) (xs : List (List ℕ)). x ∷ xs) (generator_line-source p (suc k) w names d known.0) (generator_lines-sources p (suc k) names ws ds known.1)
+
+pub AreResolved-push : (names : List (List ℕ)) (ss : List Source) (ds : List Definition) (s : Source) (d : Definition) → AreResolved names ss ds → Resolves names s d
+    → AreResolved names (ss ++ s ∷ []) (ds ++ d ∷ [])
+AreResolved-push names [] [] s d a r = (r, tt)
+AreResolved-push names [] (e ∷ ds) s d a r = absurd a
+AreResolved-push names (t ∷ ss) [] s d a r = absurd a
+AreResolved-push names (t ∷ ss) (e ∷ ds) s d a r = (a.0, AreResolved-push names ss ds s d a.1 r)

@@ -1,5 +1,5 @@
 -- Definitions by a number in place of a name.
-use Rattle.std.specs.Prelude.{◌≡◌, ◌<◌, ◌≤◌, ◌-◌, ℕ, List, [], get_or, length}
+use Rattle.std.specs.Prelude.{◌≡◌, ◌<◌, ◌≤◌, ◌-◌, ℕ, List, [], ◌∷◌, get_or, length}
 use Rattle.pq_base.specs.Answer.{Definition}
 use Rattle.pq_base.specs.Answer.Definition.{image, commutator, power}
 use Rattle.pc_presentation.specs.declared.relation.Relation.TheVariants.{Power, Commutator}
@@ -15,3 +15,10 @@ abbrev pub Resolves : List (List ℕ) → Source → Definition → Type 0
 Resolves names (Image name) d = (n : ℕ) × (d ≡ image n) × FindsName names name n
 Resolves names (RightSide (Power j)) d = d ≡ power j
 Resolves names (RightSide (Commutator j i)) d = d ≡ commutator j i
+
+-- each definition is the one that its source means
+abbrev pub AreResolved : List (List ℕ) → List Source → List Definition → Type 0
+AreResolved names [] [] = Unit {0}
+AreResolved names [] (d ∷ ds) = ⊥
+AreResolved names (s ∷ ss) [] = ⊥
+AreResolved names (s ∷ ss) (d ∷ ds) = Resolves names s d × AreResolved names ss ds

@@ -1,6 +1,8 @@
 //! Reading an answer's text, a line at a time.
 
-ghost use Rattle.std.specs.Prelude.{◌≡◌, ◌<◌, ◌≤◌, ◌+◌, ◌-◌, ◌^◌, ◌∷◌, ◌++◌, true, [], length, IfOk, IfErr, IfSome, IfNone, OnOk, IsTrue, ◌↔◌};
+ghost use Rattle.std.specs.Prelude.{◌≡◌, ◌<◌, ◌≤◌, ◌+◌, ◌-◌, ◌^◌, ◌∷◌, ◌++◌, true, [], length, IfOk, IfErr, IfSome, IfNone, OnOk, IsTrue, ◌↔◌, map};
+ghost use Rattle.pc_presentation.specs.Definition.{definition_of};
+ghost use Rattle.answer_text.specs.Sources.{AreResolved};
 ghost use Rattle.pq_base.specs.Prime.{prime_value};
 ghost use Rattle.answer_text.specs.Lines.{avoids, text_of_lines};
 ghost use Rattle.answer_text.specs.AnswerText.{answer_text};
@@ -252,7 +254,9 @@ fn definitions(
     alloc: Global,
     sources: &[Source],
     names: &[Name],
-) -> Result<Vec<Definition>, NoMemory> {
+) -> Result<Vec<Definition>, NoMemory>
+    ensures { IfOk result (λ ds. AreResolved names.now sources.now (map definition_of ds.items)) }
+{
     let mut definitions = Vec::new(alloc);
     for source in sources {
         definitions.push(source.definition(names))?;

@@ -97,6 +97,9 @@ pub(crate) fn number_before(text: &[u8], byte: u8) -> Option<(u16, &[u8])>
     Some((number(digits)?, rest))
 }
 
+/// The least exponent that is written.
+const LEAST_EXPONENT: u16 = 2;
+
 /// The syllable that is written here. An exponent of 1 isn't written.
 pub(crate) fn syllable(text: &[u8]) -> Option<Syllable>
     ensures some { IfSome result (λ s. IsWritten s × (text.now ≡ syllable_text s)) }
@@ -112,7 +115,7 @@ pub(crate) fn syllable(text: &[u8]) -> Option<Syllable>
     };
     let generator = number(left)?;
     let exponent = number(right)?;
-    if exponent < 2 || 100 <= exponent {
+    if exponent < LEAST_EXPONENT || 100 <= exponent {
         return None;
     }
     Some(Syllable {

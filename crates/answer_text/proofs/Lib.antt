@@ -29,3 +29,4 @@ mod BadLines
 mod GeneratorsRead
 mod RelationAdded
 mod FaultsOfParts
+mod DraftAdded

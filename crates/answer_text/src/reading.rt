@@ -1,6 +1,7 @@
 //! Reading an answer's text, a line at a time.
 
-ghost use Rattle.std.specs.Prelude.{◌≡◌, ◌<◌, ◌≤◌, ◌+◌, ◌-◌, ◌^◌, ◌∷◌, ◌++◌, true, [], length, IfOk, IfErr, IfSome, IfNone, OnOk, IsTrue, ◌↔◌, map};
+ghost use Rattle.std.specs.Prelude.{◌≡◌, ◌<◌, ◌≤◌, ◌+◌, ◌-◌, ◌^◌, ◌∷◌, ◌++◌, true, [], length, IfOk, IfErr, IfSome, IfNone, OnOk, IsTrue, ◌↔◌, map, None as Nothing};
+ghost use Rattle.pc_presentation.specs.Builder.{extended, IsAccepted};
 ghost use Rattle.pc_presentation.specs.Definition.{definition_of};
 ghost use Rattle.answer_text.specs.Sources.{AreResolved};
 ghost use Rattle.pq_base.specs.Prime.{prime_value};
@@ -234,7 +235,13 @@ fn add_line(body: &mut Body, head: Head, line: &[u8]) -> Result<bool, NoMemory>
     }
 }
 
-fn add_relation(body: &mut Body, relation: Relation, word: &[Syllable]) -> Result<bool, NoMemory> {
+/// Gives a relation to the builder, where it is behind the last one, and says whether it did.
+fn add_relation(body: &mut Body, relation: Relation, word: &[Syllable]) -> Result<bool, NoMemory>
+    ensures rises { IfOk result (λ b. IsTrue b → (body.old.last < order_of relation) × (body.new.last ≡ order_of relation)) }
+    ensures added { IfOk result (λ b. IsTrue b → body.new.builder ≡ extended body.old.builder relation word.now Nothing) }
+    ensures images { (body.new.names.items ≡ body.old.names.items) × (body.new.images.items ≡ body.old.images.items) }
+    ensures refused { IfOk result (λ b. ¬ IsTrue b → body.old.last < order_of relation → ¬ IsAccepted body.old.builder relation word.now Nothing) }
+{
     let place = place(relation);
     if place <= body.last {
         return Ok(false);

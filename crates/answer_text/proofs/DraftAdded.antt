@@ -1,6 +1,10 @@
 -- A relation behind all that a draft was given is accepted, and adds its line.
-use Rattle.std.proofs.Common.{◌≡◌, ◌≢◌, ◌<◌, ◌≤◌, ◌-◌, ℕ, Bool, true, false, List, [], ◌∷◌, ◌++◌, length, refl, ap, sym, subst, ◌∙◌, arith}
-use Rattle.std.specs.Prelude.{None}
+use Rattle.std.proofs.Common.{◌≡◌, ◌≢◌, ◌<◌, ◌≤◌, ◌-◌, ℕ, zero, Bool, true, false, List, [], ◌∷◌, ◌++◌, length, refl, ap, sym, subst, ◌∙◌, arith}
+use Rattle.std.specs.Prelude.{None, Some, Option, Result, Ok, Err, IfOk, IfSome, codes}
+use Rattle.answer_text.specs.Words.{word_text}
+use Rattle.answer_text.proofs.Splits.{first-apart}
+use Rattle.answer_text.proofs.FormLaws.{offered-small}
+use Rattle.answer_text.proofs.LineTexts.{relation_start-same}
 use native.Mathlib.Decide.{dec_lt}
 use Rattle.pq_base.specs.Presentation.{Presentation}
 use Rattle.pc_presentation.specs.declared.syllable.Syllable.{Syllable}
@@ -14,25 +18,12 @@ use Rattle.pc_presentation.specs.Builder.{Draft, extended, WasGiven, IsAccepted,
 use Rattle.pc_presentation.proofs.SyllableLaws.{AreSyllables-weaken}
 use Rattle.pc_presentation.proofs.WordTests.{AreGenerators-AreSyllables, normal_from-AreSyllables, later_from_normal}
 use Rattle.pc_presentation.proofs.EntryLaws.{with_entry-shape, entry_at-with_entry_other}
-use Rattle.answer_text.specs.AnswerPlaces.{IsScale, order_of, relation_line}
+pub use Rattle.answer_text.specs.Drafts.{IsDraft, IsNext}
+use Rattle.answer_text.specs.AnswerPlaces.{Place, HasForm, IsScale, order_of, relation_line, word_line}
+use Rattle.answer_text.specs.AnswerPlaces.Place.{in_body}
+use Rattle.answer_text.specs.AnswerPlaces.HasForm.{relation, image, last}
+use Rattle.pq_base.specs.Name.{IsName}
 use Rattle.answer_text.proofs.RelationAdded.{all_lines, IsBlankBehind, relation-added}
-
--- a draft of prime p and rank n that was given no relation behind this place in the order of all
-pub record IsDraft (p n : ℕ) (D : Draft) (place : ℕ) : Type 0 where
-  pub scale : IsScale p n
-  pub prime : D.built.presentation.prime ≡ p
-  pub rank : D.built.presentation.rank ≡ n
-  pub sides : HasShape n (sides_of D.built.presentation)
-  pub flags : HasShape n D.given
-  pub blank : IsBlankBehind place D.built.presentation
-  pub given : (r : Relation) → IsRelation n r → WasGiven D r → order_of r ≤ place
-
--- a relation that may come next
-pub record IsNext (p n place : ℕ) (r : Relation) (w : List Syllable) : Type 0 where
-  pub relation : IsRelation n r
-  pub rises : place < order_of r
-  pub some : 1 ≤ length w
-  pub word : AreSyllables p n (side_start r) w
 
 pub IsAccepted-next : (p n place : ℕ) (D : Draft) (r : Relation) (w : List Syllable) → IsDraft p n D place → IsNext p n place r w → IsAccepted D r w None
 IsAccepted-next p n place D r w draft next =
@@ -83,3 +74,30 @@ draft-added p n place D r w draft next =
       },
       subst (λ (x : List ℕ). all_lines p (with_side P r x) ≡ all_lines p P ++ relation_line p r w ∷ []) side added.0,
     )
+
+-- where a line is neither a relation that comes next nor an image, it is the last line, or has no form
+pub only-end : (p n place : ℕ) (line : List ℕ) (Q : Place) → ((r : Relation) (w : List Syllable) → IsNext p n place r w → ¬ (line ≡ relation_line p r w))
+    → ((name : List ℕ) (w : List Syllable) → IsName name → AreSyllables p n 0 w → ¬ (line ≡ word_line name w))
+    → HasForm (in_body p n zero place) line Q → line ≡ codes "end"
+only-end p n place line Q no_relation no_image (relation p2 n2 m r w z is rises some a) = absurd (no_relation r w (record { relation = is; rises = rises; some = some; word = a }) refl)
+only-end p n place line Q no_relation no_image (image p2 n2 m name w z is a) = absurd (no_image name w is a refl)
+only-end p n place line Q no_relation no_image (last p2 n2 m) = refl
+
+-- a relation that the draft doesn't take isn't one that comes next
+pub refused-relation : (p n place : ℕ) (D : Draft) (line : List ℕ) (Q : Place) (r : Relation) (w : List Syllable) → IsDraft p n D place → IsRelation n r → 1 ≤ length w
+    → AreSyllables p n (side_start r) w → line ≡ relation_line p r w → (place < order_of r → ¬ IsAccepted D r w None) → HasForm (in_body p n zero place) line Q → line ≡ codes "end"
+refused-relation p n place D line Q r w draft it one b same refused (relation p2 n2 m q v z is rises some a) =
+    let small : p < 8 = offered-small p z.offered in
+    let limit : n ≤ 100 = z.limit in
+    let relations : q ≡ r = (relation_start-same p n q r (word_text v) (word_text w) (omega arith) (omega arith) is it same).0 in
+    let behind : place < order_of r = subst (λ (x : Relation). place < order_of x) relations rises in
+    absurd (refused behind (IsAccepted-next p n place D r w draft (record { relation = it; rises = behind; some = one; word = b })))
+refused-relation p n place D line Q r w draft it one b same refused (image p2 n2 m name v z is a) = absurd (first-apart 105 114 _ _ refl same)
+refused-relation p n place D line Q r w draft it one b same refused (last p2 n2 m) = absurd (first-apart 101 114 _ _ refl same)
+
+pub IfOk-then : {X E : Type 0} (o : Result X E) (P Q : X → Type 0) → IfOk o P → ((x : X) → P x → Q x) → IfOk o Q
+IfOk-then (Ok x) P Q h f = f x h
+IfOk-then (Err e) P Q h f = tt
+
+pub IfSome-at : {X : Type 0} (o : Option X) (x : X) (P : X → Type 0) → o ≡ Some x → IfSome o P → P x
+IfSome-at {X} o x P e h = subst (λ (t : Option X). IfSome t P) e h

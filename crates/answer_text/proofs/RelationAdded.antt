@@ -8,17 +8,10 @@ use Rattle.pc_presentation.specs.Syllable.{AreSyllables, spread, syllables_of}
 use Rattle.pc_presentation.specs.Relation.{IsRelation, side_start}
 use Rattle.pc_presentation.specs.Pcp.{HasShape, sides_of, with_side}
 use Rattle.pc_presentation.proofs.SyllableLaws.{syllables_of-spread}
+pub use Rattle.answer_text.specs.Drafts.{all_lines, IsBlankBehind}
 use Rattle.answer_text.specs.AnswerText.{relation_lines, power_text, power_lines, commutator_text, commutator_lines}
 use Rattle.answer_text.specs.AnswerPlaces.{left_text, order_of, relation_line}
 use Rattle.answer_text.proofs.RelationAppends.{PowersBlank, PowersBlank-later, power_lines-set, PowersBlank-set, RowsBlank, RowsBlank-later, rows-blank, commutator_lines-set}
-
--- the lines of all relations
-abbrev pub all_lines : ℕ → Presentation → List (List ℕ)
-all_lines p P = power_lines p 0 P.powers ++ commutator_lines 0 P.commutators
-
--- no relation behind this place in the order of all has a right side
-abbrev pub IsBlankBehind : ℕ → Presentation → Type 0
-IsBlankBehind last P = PowersBlank 0 last P.powers × RowsBlank 0 last P.commutators
 
 one-line : (p : ℕ) (r : Relation) (w : List Syllable) → 1 ≤ length w → relation_lines (left_text p r) w ≡ relation_line p r w ∷ []
 one-line p r [] h = absurd (omega arith)

@@ -2,13 +2,8 @@
 use Rattle.std.proofs.Common.{◌≡◌, ◌<◌, ◌≤◌, ◌+◌, ◌-◌, ◌*◌, ℕ, zero, suc, List, [], ◌∷◌, ◌++◌, get_or, length, slice_set, refl, ap, ap₂, sym, subst, ◌∙◌, arith, append_assoc, append-nil}
 use Rattle.pc_presentation.specs.declared.syllable.Syllable.{Syllable}
 use Rattle.pc_presentation.specs.Syllable.{syllables_of}
+pub use Rattle.answer_text.specs.Drafts.{PowersBlank, RowBlank, RowsBlank}
 use Rattle.answer_text.specs.AnswerText.{relation_lines, power_text, power_lines, commutator_text, commutator_row_lines, commutator_lines}
-
--- the powers of the generators after number k are empty from entry i on
-abbrev pub PowersBlank : ℕ → ℕ → List (List ℕ) → Type 0
-PowersBlank k i [] = Unit {0}
-PowersBlank k zero (e ∷ es) = (syllables_of (suc k) e ≡ []) × PowersBlank (suc k) zero es
-PowersBlank k (suc i) (e ∷ es) = PowersBlank (suc k) i es
 
 pub PowersBlank-later : (k i j : ℕ) (es : List (List ℕ)) → i ≤ j → PowersBlank k i es → PowersBlank k j es
 PowersBlank-later k i j [] h b = tt
@@ -40,12 +35,6 @@ PowersBlank-set k i [] e b = tt
 PowersBlank-set k zero (x ∷ es) e b = b.1
 PowersBlank-set k (suc i) (x ∷ es) e b = PowersBlank-set (suc k) i es e b
 
--- the commutators of generator j are empty from entry i on
-abbrev pub RowBlank : ℕ → ℕ → List (List ℕ) → Type 0
-RowBlank j i [] = Unit {0}
-RowBlank j zero (e ∷ es) = (syllables_of j e ≡ []) × RowBlank j zero es
-RowBlank j (suc i) (e ∷ es) = RowBlank j i es
-
 RowBlank-later : (j i m : ℕ) (es : List (List ℕ)) → i ≤ m → RowBlank j i es → RowBlank j m es
 RowBlank-later j i m [] h b = tt
 RowBlank-later j zero zero (e ∷ es) h b = b
@@ -75,11 +64,6 @@ RowBlank-set : (j i : ℕ) (es : List (List ℕ)) (e : List ℕ) → RowBlank j 
 RowBlank-set j i [] e b = tt
 RowBlank-set j zero (x ∷ es) e b = b.1
 RowBlank-set j (suc i) (x ∷ es) e b = RowBlank-set j i es e b
-
--- the commutators of the generators after number k are empty behind a place in the order of all relations
-abbrev pub RowsBlank : ℕ → ℕ → List (List (List ℕ)) → Type 0
-RowsBlank k last [] = Unit {0}
-RowsBlank k last (row ∷ rows) = RowBlank (suc k) (last - 1000 * suc k) row × RowsBlank (suc k) last rows
 
 pub RowsBlank-later : (k i m : ℕ) (rows : List (List (List ℕ))) → i ≤ m → RowsBlank k i rows → RowsBlank k m rows
 RowsBlank-later k i m [] h b = tt

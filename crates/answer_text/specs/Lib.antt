@@ -8,3 +8,4 @@ pub mod AnswerFaults
 pub mod Numbers
 pub mod Sources
 pub mod ReadSoFar
+pub mod Drafts

@@ -1,13 +1,15 @@
 //! Reading an answer's text, a line at a time.
 
-ghost use Rattle.std.specs.Prelude.{◌≡◌, ◌<◌, ◌≤◌, ◌+◌, ◌-◌, ◌^◌, ◌∷◌, ◌++◌, true, [], length, IfOk, IfErr, IfSome, IfNone, OnOk, IsTrue, ◌↔◌, map, None as Nothing};
+ghost use Rattle.std.specs.Prelude.{◌≡◌, ◌<◌, ◌≤◌, ◌+◌, ◌-◌, ◌^◌, ◌∷◌, ◌++◌, true, [], length, IfOk, IfErr, IfSome, IfNone, OnOk, IsTrue, ◌↔◌, map, codes, None as Nothing};
 ghost use Rattle.pc_presentation.specs.Builder.{extended, IsAccepted};
 ghost use Rattle.pc_presentation.specs.Definition.{definition_of};
 ghost use Rattle.answer_text.specs.Sources.{AreResolved};
 ghost use Rattle.pq_base.specs.Prime.{prime_value};
 ghost use Rattle.answer_text.specs.Lines.{avoids, text_of_lines};
 ghost use Rattle.answer_text.specs.AnswerText.{answer_text};
-ghost use Rattle.answer_text.specs.AnswerPlaces.{order_of};
+ghost use Rattle.pc_presentation.specs.Parts.{words_of};
+ghost use Rattle.answer_text.specs.Drafts.{IsDraft, Adds, so_far};
+ghost use Rattle.answer_text.specs.AnswerPlaces.{Place, HasForm, order_of};
 ghost use Rattle.answer_text.specs.AnswerPlaces.Place.{for_prime, for_class, in_body};
 ghost use Rattle.answer_text.specs.ReadSoFar.{IsBadAt, IsHead, IsSize, source_lines, AreSources};
 
@@ -218,6 +220,10 @@ fn read_body(body: &mut Body, head: Head, text: &[u8]) -> Result<u32, AnswerFaul
 /// Adds what a line says, and says whether it has the form of a relation or an image in its place.
 fn add_line(body: &mut Body, head: Head, line: &[u8]) -> Result<bool, NoMemory>
     requires { head.rank ≤ 100 }
+    ensures added { IfOk result (λ b. IsTrue b → Adds (prime_value head.prime) head.rank (so_far body.old.builder body.old.last body.old.names.items (words_of body.old.images.items))
+        (so_far body.new.builder body.new.last body.new.names.items (words_of body.new.images.items)) line.now) }
+    ensures refused { IfOk result (λ b. ¬ IsTrue b → IsDraft (prime_value head.prime) head.rank body.old.builder body.old.last
+        → (Q : Place) → HasForm (in_body (prime_value head.prime) head.rank 0 body.old.last) line.now Q → line.now ≡ codes "end") }
 {
     let alloc = *body.names.allocator();
     let prime = head.prime.value();

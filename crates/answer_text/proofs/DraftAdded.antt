@@ -1,5 +1,5 @@
 -- A relation behind all that a draft was given is accepted, and adds its line.
-use Rattle.std.proofs.Common.{◌≡◌, ◌≢◌, ◌<◌, ◌≤◌, ◌-◌, ℕ, zero, Bool, true, false, List, [], ◌∷◌, ◌++◌, length, refl, ap, sym, subst, ◌∙◌, arith}
+use Rattle.std.proofs.Common.{◌≡◌, ◌≢◌, ◌<◌, ◌≤◌, ◌-◌, ℕ, zero, true, false, List, [], ◌∷◌, ◌++◌, length, refl, ap, sym, subst, ◌∙◌, arith}
 use Rattle.std.specs.Prelude.{None, Some, Option, Result, Ok, Err, IfOk, IfSome, codes}
 use Rattle.answer_text.specs.Words.{word_text}
 use Rattle.answer_text.proofs.Splits.{first-apart}
@@ -13,13 +13,13 @@ use Rattle.pc_presentation.specs.declared.builder.PcpRefusal.{PcpRefusal}
 use Rattle.pc_presentation.specs.declared.builder.PcpRefusal.TheVariants.{OutOfRange, Repeated, NotNormal, NotLater, NoMemory}
 use Rattle.pc_presentation.specs.Syllable.{AreSyllables, AreGenerators, spread, is_normal_from}
 use Rattle.pc_presentation.specs.Relation.{IsRelation, side_start}
-use Rattle.pc_presentation.specs.Pcp.{HasShape, sides_of, with_side}
-use Rattle.pc_presentation.specs.Builder.{Draft, extended, WasGiven, IsAccepted, IsRefused}
+use Rattle.pc_presentation.specs.Pcp.{sides_of, with_side}
+use Rattle.pc_presentation.specs.Builder.{Draft, extended, IsAccepted, IsRefused}
 use Rattle.pc_presentation.proofs.SyllableLaws.{AreSyllables-weaken}
 use Rattle.pc_presentation.proofs.WordTests.{AreGenerators-AreSyllables, normal_from-AreSyllables, later_from_normal}
 use Rattle.pc_presentation.proofs.EntryLaws.{with_entry-shape, entry_at-with_entry_other}
 pub use Rattle.answer_text.specs.Drafts.{IsDraft, IsNext}
-use Rattle.answer_text.specs.AnswerPlaces.{Place, HasForm, IsScale, order_of, relation_line, word_line}
+use Rattle.answer_text.specs.AnswerPlaces.{Place, HasForm, order_of, relation_line, word_line}
 use Rattle.answer_text.specs.AnswerPlaces.Place.{in_body}
 use Rattle.answer_text.specs.AnswerPlaces.HasForm.{relation, image, last}
 use Rattle.pq_base.specs.Name.{IsName}

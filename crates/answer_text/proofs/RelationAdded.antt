@@ -11,7 +11,7 @@ use Rattle.pc_presentation.proofs.SyllableLaws.{syllables_of-spread}
 pub use Rattle.answer_text.specs.Drafts.{all_lines, IsBlankBehind}
 use Rattle.answer_text.specs.AnswerText.{relation_lines, power_text, power_lines, commutator_text, commutator_lines}
 use Rattle.answer_text.specs.AnswerPlaces.{left_text, order_of, relation_line}
-use Rattle.answer_text.proofs.RelationAppends.{PowersBlank, PowersBlank-later, power_lines-set, PowersBlank-set, RowsBlank, RowsBlank-later, rows-blank, commutator_lines-set}
+use Rattle.answer_text.proofs.RelationAppends.{PowersBlank, PowersBlank-later, power_lines-set, PowersBlank-set, RowsBlank-later, rows-blank, commutator_lines-set}
 
 one-line : (p : ℕ) (r : Relation) (w : List Syllable) → 1 ≤ length w → relation_lines (left_text p r) w ≡ relation_line p r w ∷ []
 one-line p r [] h = absurd (omega arith)

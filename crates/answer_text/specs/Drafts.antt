@@ -1,5 +1,5 @@
 -- A presentation in the making, as lines of relations are read: what is given so far stands in the order of all relations.
-use Rattle.std.specs.Prelude.{◌≡◌, ◌⊎◌, ◌<◌, ◌≤◌, ◌+◌, ◌-◌, ◌*◌, ℕ, zero, suc, List, [], ◌∷◌, ◌++◌, length, None}
+use Rattle.std.specs.Prelude.{◌≡◌, ◌⊎◌, ◌<◌, ◌≤◌, ◌-◌, ◌*◌, ℕ, zero, suc, List, [], ◌∷◌, ◌++◌, length, None}
 use Rattle.pq_base.specs.Name.{IsName}
 use Rattle.pq_base.specs.Presentation.{Presentation}
 use Rattle.pc_presentation.specs.declared.syllable.Syllable.{Syllable}

@@ -1,7 +1,5 @@
-use Rattle.std.proofs.Common.{◌≡◌, ◌<◌, ◌≤◌, ℕ, List, length, Bool, subst, sym, ◌∙◌, ap}
+use Rattle.std.proofs.Common.{◌≡◌, ◌<◌, ◌≤◌, ℕ, List, length, Bool, subst, ◌∙◌, ap}
 use Rattle.std.specs.Prelude.{None, IsTrue, codes}
-use Rattle.std.specs.declared.vec.Vec.{Vec}
-use Rattle.std.specs.Global.{Global}
 use Rattle.pq_base.specs.Prime.{prime_value}
 use Rattle.pc_presentation.specs.declared.syllable.Syllable.{Syllable}
 use Rattle.pc_presentation.specs.declared.relation.Relation.{Relation}

@@ -19,13 +19,9 @@ use Rattle.answer_text.specs.AnswerPlaces.{Place, HasForm, IsScale, left_text, o
 use Rattle.answer_text.specs.AnswerPlaces.Place.{for_prime, for_class, for_rank, for_order, in_body, at_end}
 use Rattle.answer_text.specs.AnswerPlaces.HasForm.{prime, class, rank, order, generator, relation, image as image_form, last}
 use Rattle.answer_text.specs.AnswerFaults.{IsWhole, FaultsAreNoAnswers}
+pub use Rattle.answer_text.specs.BodyRead.{Leads}
 
--- the lines lead from the first place to the second
-abbrev pub Leads : Place → List (List ℕ) → Place → Type 0
-Leads P [] Q = P ≡ Q
-Leads P (l ∷ ls) Q = (M : Place) × HasForm P l M × Leads M ls Q
-
-Leads-append : (P Q R : Place) (ls ks : List (List ℕ)) → Leads P ls Q → Leads Q ks R → Leads P (ls ++ ks) R
+pub Leads-append : (P Q R : Place) (ls ks : List (List ℕ)) → Leads P ls Q → Leads Q ks R → Leads P (ls ++ ks) R
 Leads-append P Q R [] ks a b = subst (λ (x : Place). Leads x ks R) (sym a) b
 Leads-append P Q R (l ∷ ls) ks a b = (a.0, a.1, Leads-append a.0 Q R ls ks a.2 b)
 

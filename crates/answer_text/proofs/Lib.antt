@@ -30,3 +30,6 @@ mod GeneratorsRead
 mod RelationAdded
 mod FaultsOfParts
 mod DraftAdded
+mod BodyStart
+mod BodyAdded
+mod BodyFaults

@@ -12,7 +12,7 @@ PowersBlank-later k zero (suc j) (e ∷ es) h b = PowersBlank-later (suc k) zero
 PowersBlank-later k (suc i) zero (e ∷ es) h b = absurd (omega arith)
 PowersBlank-later k (suc i) (suc j) (e ∷ es) h b = PowersBlank-later (suc k) i j es (omega arith) b
 
-power_lines-blank : (p k : ℕ) (es : List (List ℕ)) → PowersBlank k zero es → power_lines p k es ≡ []
+pub power_lines-blank : (p k : ℕ) (es : List (List ℕ)) → PowersBlank k zero es → power_lines p k es ≡ []
 power_lines-blank p k [] b = refl
 power_lines-blank p k (e ∷ es) b = ap₂ (λ (v : List Syllable) (t : List (List ℕ)). relation_lines (power_text p (suc k)) v ++ t) b.0 (power_lines-blank p (suc k) es b.1)
 

@@ -9,3 +9,4 @@ pub mod Numbers
 pub mod Sources
 pub mod ReadSoFar
 pub mod Drafts
+pub mod BodyRead

@@ -8,6 +8,7 @@ ghost use Rattle.pq_base.specs.Prime.{prime_value};
 ghost use Rattle.answer_text.specs.Lines.{avoids, text_of_lines};
 ghost use Rattle.answer_text.specs.AnswerText.{answer_text};
 ghost use Rattle.pc_presentation.specs.Parts.{words_of};
+ghost use Rattle.answer_text.specs.BodyRead.{IsBodyRead};
 ghost use Rattle.answer_text.specs.Drafts.{IsDraft, Adds, so_far};
 ghost use Rattle.answer_text.specs.AnswerPlaces.{Place, HasForm, order_of};
 ghost use Rattle.answer_text.specs.AnswerPlaces.Place.{for_prime, for_class, in_body};
@@ -197,11 +198,16 @@ fn place(relation: Relation) -> u32
 fn read_body(body: &mut Body, head: Head, text: &[u8]) -> Result<u32, AnswerFault>
     requires rank { head.rank ≤ 100 }
     requires limit { length text.now + head.rank + 4 < 2 ^ 32 - 1 }
+    requires start { IsBodyRead (prime_value head.prime) head.rank body.now.builder.built.weights text.now text.now (head.rank + 5)
+        (so_far body.now.builder body.now.last body.now.names.items (words_of body.now.images.items)) }
+    ensures ok { IfOk result (λ number. IsBodyRead (prime_value head.prime) head.rank body.old.builder.built.weights text.now (codes "end\n") number
+        (so_far body.new.builder body.new.last body.new.names.items (words_of body.new.images.items))) }
+    ensures err { IfErr result (IsBadAt (in_body (prime_value head.prime) head.rank 0 0) text.now (head.rank + 5)) }
 {
     let mut number = u32::from(head.rank) + 5;
     let mut rest = text;
     while let Some((line, more)) = next_line(rest) {
-        if matches!(line, [b'e', b'n', b'd']) {
+        if are_same(line, b"end") {
             return if more.is_empty() {
                 Ok(number)
             } else {

@@ -1,5 +1,6 @@
-use Rattle.std.proofs.Common.{◌≡◌, ◌+◌, ℕ, true, false, List, [], sym, ◌∙◌, arith}
+use Rattle.std.proofs.Common.{◌≡◌, ◌+◌, ℕ, true, false, List, [], length, ap, sym, ◌∙◌, arith}
 use Rattle.std.specs.Prelude.{codes}
+use Rattle.std.specs.Bool.{◌==◌}
 use Rattle.pq_base.specs.Prime.{prime_value}
 use Rattle.pc_presentation.specs.Parts.{words_of}
 use Rattle.answer_text.specs.Drafts.{SoFar, so_far}
@@ -13,7 +14,10 @@ returns-else-is_empty-clause-err c =
     let end : c.in-Some.line.now ≡ codes "end" = c.are_same.ensures.0 c.if-are_same.true in
     behind_end-body (prime_value c.args.head.prime) c.args.head.rank c.loop-line.number (c.loop-line.number + 1) c.args.body.now.builder.built.weights c.args.text.now c.loop-line.rest.now
     c.in-Some.line.now c.in-Some.more.now S c.loop-line.invariant.read c.in-Some.ensures.some end
-    (λ none. ?) (omega arith)
+    (λ none.
+    let yes : c.is_empty.result ≡ true = c.is_empty.ensures ∙ ap (λ (x : List ℕ). length x == 0) none in
+    let bad : true ≡ false = sym yes ∙ c.if-is_empty.false in
+    cc) (omega arith)
 
 pub returns-then-not-branch-clause-err : goal.returns-then-not-branch-clause-err
 returns-then-not-branch-clause-err c =

@@ -119,7 +119,7 @@ class-form line p c h e = subst (λ (x : List ℕ). HasForm (for_class p) x (for
 pub rank-form : (line : List ℕ) (p n : ℕ) → n ≤ 100 → line ≡ rank_line n → HasForm (for_rank p) line (for_order p n)
 rank-form line p n h e = subst (λ (x : List ℕ). HasForm (for_rank p) x (for_order p n)) (sym e) (rank p n h)
 
-length-source_lines : (p k : ℕ) (ws : List ℕ) (ss : List Source) → length ss ≡ length ws → length (source_lines p k ws ss) ≡ length ws
+pub length-source_lines : (p k : ℕ) (ws : List ℕ) (ss : List Source) → length ss ≡ length ws → length (source_lines p k ws ss) ≡ length ws
 length-source_lines p k [] ss h = refl
 length-source_lines p k (w ∷ ws) [] h = absurd (omega arith)
 length-source_lines p k (w ∷ ws) (s ∷ ss) h = ap (λ (x : ℕ). suc x) (length-source_lines p (suc k) ws ss (omega arith))

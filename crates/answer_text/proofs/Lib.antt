@@ -33,3 +33,4 @@ mod DraftAdded
 mod BodyStart
 mod BodyAdded
 mod BodyFaults
+mod ReadLines

@@ -1,6 +1,6 @@
 //! Reading an answer's text, a line at a time.
 
-ghost use Rattle.std.specs.Prelude.{◌≡◌, ◌<◌, ◌≤◌, ◌+◌, ◌-◌, ◌^◌, ◌∷◌, ◌++◌, true, [], length, IfOk, IfErr, IfSome, IfNone, OnOk, IsTrue, ◌↔◌, map, codes, None as Nothing};
+ghost use Rattle.std.specs.Prelude.{◌≡◌, ◌<◌, ◌≤◌, ◌+◌, ◌-◌, ◌^◌, ◌∷◌, ◌++◌, true, [], length, IfOk, IfErr, IfSome, IfNone, OnOk, IsTrue, ◌↔◌, map, codes, ℕ, None as Nothing};
 ghost use Rattle.pc_presentation.specs.Builder.{extended, IsAccepted};
 ghost use Rattle.pc_presentation.specs.Definition.{definition_of};
 ghost use Rattle.answer_text.specs.Sources.{AreResolved};
@@ -8,7 +8,8 @@ ghost use Rattle.pq_base.specs.Prime.{prime_value};
 ghost use Rattle.answer_text.specs.Lines.{avoids, text_of_lines};
 ghost use Rattle.answer_text.specs.AnswerText.{answer_text};
 ghost use Rattle.pc_presentation.specs.Parts.{words_of};
-ghost use Rattle.answer_text.specs.BodyRead.{IsBodyRead};
+ghost use Rattle.answer_text.specs.AnswerFaults.{IsAnswerText, IsFaultOf};
+ghost use Rattle.answer_text.specs.BodyRead.{IsBodyRead, IsRead};
 ghost use Rattle.answer_text.specs.Drafts.{IsDraft, Adds, so_far};
 ghost use Rattle.answer_text.specs.AnswerPlaces.{Place, HasForm, order_of};
 ghost use Rattle.answer_text.specs.AnswerPlaces.Place.{for_prime, for_class, in_body};
@@ -28,7 +29,28 @@ use std::alloc::Global;
 /// The answer that a text is, or the line of its first fault.
 pub fn read_answer(alloc: Global, bytes: &[u8]) -> Result<Answer, AnswerFault>
     requires { length bytes.now < 2 ^ 32 - 1 }
-    ensures { IfOk result (λ a. bytes.now ≡ answer_text a) }
+    ensures ok { IfOk result (λ a. bytes.now ≡ answer_text a) }
+    ensures fault { IfErr result (IsFaultOf bytes.now) }
+{
+    let Reading { sources, body, end } = read_lines(alloc, bytes)?;
+    match answer_of(alloc, bytes, &sources, body)? {
+        Some(answer) => Ok(answer),
+        None => Err(AnswerFault::Line(end)),
+    }
+}
+
+/// What the lines of a text say, and the number of the last.
+#[derive(Drop)]
+struct Reading {
+    sources: Vec<Source>,
+    body: Body,
+    end: u32,
+}
+
+fn read_lines(alloc: Global, bytes: &[u8]) -> Result<Reading, AnswerFault>
+    requires { length bytes.now < 2 ^ 32 - 1 }
+    ensures ok { IfOk result (λ r. IsRead bytes.now r.end r.sources.items (so_far r.body.builder r.body.last r.body.names.items (words_of r.body.images.items))) }
+    ensures err { IfErr result (IsBadAt for_prime bytes.now 1) }
 {
     let (head, rest) = read_head(bytes)?;
     let (weights, sources, rest) = read_generators(alloc, head, rest)?;
@@ -39,22 +61,37 @@ pub fn read_answer(alloc: Global, bytes: &[u8]) -> Result<Answer, AnswerFault>
         images: Vec::new(alloc),
     };
     let end = read_body(&mut body, head, rest)?;
-    let definitions = definitions(alloc, &sources, &body.names)?;
+    Ok(Reading { sources, body, end })
+}
+
+/// The answer of what was read, where it has this text.
+fn answer_of(
+    alloc: Global,
+    bytes: &[u8],
+    sources: &[Source],
+    body: Body,
+) -> Result<Option<Answer>, NoMemory>
+    ensures some { IfOk result (λ o. IfSome o (λ a. bytes.now ≡ answer_text a)) }
+    ensures none { IfOk result (λ o. IfNone o ((end : ℕ) → IsRead bytes.now end sources.now (so_far body.builder body.last body.names.items (words_of body.images.items)) → ¬ IsAnswerText bytes.now)) }
+{
+    let definitions = definitions(alloc, sources, &body.names)?;
     let Body {
         builder,
         last: _,
         names,
         images,
     } = body;
-    let Some(answer) = Answer::of(builder.finish(), names, definitions, images) else {
-        return Err(AnswerFault::Line(end));
+    let pcp = builder.finish();
+    let _rank = pcp.rank();
+    let Some(answer) = Answer::of(pcp, names, definitions, images) else {
+        return Ok(None);
     };
     // the class, and the names in the definitions, are compared with what they are to be
     let written = text(alloc, &answer)?;
     if !are_same(bytes, &written) {
-        return Err(AnswerFault::Line(end));
+        return Ok(None);
     }
-    Ok(answer)
+    Ok(Some(answer))
 }
 
 fn are_same(left: &[u8], right: &[u8]) -> bool

@@ -1,6 +1,6 @@
 -- The first bad line of a part is the fault of the whole.
 use Rattle.std.proofs.Common.{◌≡◌, ◌+◌, ℕ, zero, suc, List, ◌++◌, length, refl, sym, subst, inl, arith}
-use Rattle.std.specs.Prelude.{Result, Ok, Err, IfErr, IsErrAnd}
+use Rattle.std.specs.Prelude.{Result, Ok, Err, IfErr, IsErrAnd, Option, None, IfNone}
 use Rattle.answer_text.specs.declared.source.Source.{Source}
 use Rattle.answer_text.specs.AnswerText.{head_lines}
 use Rattle.answer_text.specs.declared.fault.AnswerFault.{AnswerFault}
@@ -45,3 +45,6 @@ IsBadAt-sources p n ws ss text rest f z one two are cut bad =
 pub IfErr-given : {X E : Type 0} (o : Result X E) (e : E) (P : E → Type 0) → IsErrAnd o (λ x. x ≡ e) → P e → IfErr o P
 IfErr-given (Ok x) e P same h = tt
 IfErr-given (Err x) e P same h = subst P (sym same) h
+
+pub IfNone-at : {X : Type 0} (o : Option X) (P : Type 0) → o ≡ None → IfNone o P → P
+IfNone-at {X} o P none h = subst (λ (x : Option X). IfNone x P) none h

@@ -1,4 +1,4 @@
-use Rattle.std.proofs.Common.{rules, ◌≡◌, ◌+◌, ℕ, [], List, length, map, ap, sym, subst, ◌∙◌, arith}
+use Rattle.std.proofs.Common.{◌≡◌, ◌+◌, ℕ, [], List, length, map, ap, sym, subst, ◌∙◌, arith}
 use Rattle.pq_base.specs.Prime.{prime_value}
 use Rattle.pc_presentation.specs.declared.syllable.Syllable.{Syllable}
 use Rattle.pc_presentation.specs.Builder.{Draft, empty_draft}
@@ -19,7 +19,7 @@ returns-in_err-weights-clause-err c =
     let n : ℕ = c.in_ok-head.head.rank in
     let bad : IsBadAt for_prime c.args.bytes.now 1 c.in_err-weights.field-0.0 =
     IsBadAt-head p n c.args.bytes.now c.in_ok-head.rest.now c.in_err-weights.field-0.0 c.in_ok-head.ensures.ok c.in_err-weights.ensures.err in
-    search (bad, rules)
+    IfErr-given c.from_residual-in_err-weights.result c.in_err-weights.field-0.0 (IsBadAt for_prime c.args.bytes.now 1) c.from_residual-in_err-weights.ensures.1 bad
 
 pub read_body-requires-clause-start : goal.read_body-requires-clause-start
 read_body-requires-clause-start c =

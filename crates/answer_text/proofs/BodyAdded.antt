@@ -1,5 +1,5 @@
 -- A line that adds a relation or an image is one line more of what was read.
-use Rattle.std.proofs.Common.{◌≡◌, ◌<◌, ◌≤◌, ◌+◌, ◌-◌, ◌*◌, ℕ, zero, suc, List, [], ◌∷◌, ◌++◌, length, refl, ap, ap₂, sym, subst, ◌∙◌, inl, inr, arith, append_assoc, append-nil, length-append}
+use Rattle.std.proofs.Common.{◌≡◌, ◌<◌, ◌≤◌, ◌+◌, ℕ, List, [], ◌∷◌, ◌++◌, length, refl, ap, ap₂, sym, subst, ◌∙◌, inl, inr, arith, append_assoc, append-nil, length-append}
 use Rattle.std.specs.Prelude.{None}
 use Rattle.std.proofs.lemmas.List.Elements.{All-push}
 use Rattle.pq_base.specs.Name.{IsName}
@@ -8,10 +8,10 @@ use Rattle.pc_presentation.specs.declared.relation.Relation.{Relation}
 use Rattle.pc_presentation.specs.declared.relation.Relation.TheVariants.{Power, Commutator}
 use Rattle.pc_presentation.specs.Syllable.{AreSyllables}
 use Rattle.pc_presentation.specs.Relation.{IsRelation}
-use Rattle.pc_presentation.specs.Builder.{Draft, extended, WasGiven}
+use Rattle.pc_presentation.specs.Builder.{Draft, extended}
 use Rattle.answer_text.specs.Lines.{text_of_lines}
 use Rattle.answer_text.specs.OneText.{AreNames}
-use Rattle.answer_text.specs.AnswerPlaces.{Place, HasForm, order_of, behind_relations, relation_line, word_line}
+use Rattle.answer_text.specs.AnswerPlaces.{HasForm, order_of, behind_relations, relation_line, word_line}
 use Rattle.answer_text.specs.AnswerPlaces.Place.{in_body}
 use Rattle.answer_text.specs.AnswerPlaces.HasForm.{relation, image}
 use Rattle.answer_text.specs.ReadSoFar.{word_lines}

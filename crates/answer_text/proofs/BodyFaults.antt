@@ -1,9 +1,8 @@
 -- The first bad line behind what was read of relations and images.
-use Rattle.std.proofs.Common.{◌≡◌, ◌<◌, ◌≤◌, ◌+◌, ℕ, zero, suc, true, List, [], ◌∷◌, ◌++◌, length, refl, ap, sym, subst, ◌∙◌, arith, length-append}
+use Rattle.std.proofs.Common.{◌≡◌, ◌+◌, ℕ, true, List, [], ◌∷◌, ◌++◌, length, sym, subst, arith}
 use Rattle.std.specs.Prelude.{codes}
-use Rattle.answer_text.specs.declared.fault.AnswerFault.{AnswerFault}
 use Rattle.answer_text.specs.declared.fault.AnswerFault.TheVariants.{Line}
-use Rattle.answer_text.specs.Lines.{avoids, text_of_lines}
+use Rattle.answer_text.specs.Lines.{avoids}
 use Rattle.answer_text.specs.AnswerPlaces.{Place, HasForm}
 use Rattle.answer_text.specs.AnswerPlaces.Place.{in_body, at_end}
 use Rattle.answer_text.specs.AnswerPlaces.HasForm.{last}

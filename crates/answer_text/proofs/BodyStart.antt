@@ -1,10 +1,8 @@
 -- Before a relation is read, nothing is.
-use Rattle.std.proofs.Common.{◌≡◌, ◌<◌, ◌≤◌, ◌+◌, ◌-◌, ◌*◌, ℕ, zero, suc, true, false, List, [], ◌∷◌, ◌++◌, length, replicate, refl, ap, ap₂, sym, subst, ◌∙◌, arith}
+use Rattle.std.proofs.Common.{◌≡◌, ◌≤◌, ◌+◌, ◌-◌, ◌*◌, ℕ, zero, suc, true, false, List, [], ◌++◌, length, replicate, refl, ap, ap₂, sym, subst, ◌∙◌, arith}
 use Rattle.std.proofs.lemmas.List.Elements.{All-nil}
-use Rattle.pq_base.specs.Presentation.{Presentation}
 use Rattle.pq_base.specs.Elementary.{elementary, zeros, zero_powers, zero_rows}
 use Rattle.pq_base.proofs.ElementarySides.{elementary-presentation}
-use Rattle.pc_presentation.specs.declared.syllable.Syllable.{Syllable}
 use Rattle.pc_presentation.specs.Syllable.{AreSyllables, syllables_of}
 use Rattle.pc_presentation.specs.Relation.{IsRelation}
 use Rattle.pc_presentation.specs.Pcp.{HasShape, sides_of}
@@ -12,11 +10,9 @@ use Rattle.pc_presentation.specs.Builder.{empty_draft}
 use Rattle.pc_presentation.proofs.RelationTables.{entry_at-per_relation, per_relation-shape}
 use Rattle.answer_text.specs.AnswerPlaces.{IsScale}
 use Rattle.answer_text.specs.AnswerPlaces.Place.{in_body}
-use Rattle.answer_text.specs.AnswerText.{power_lines, commutator_lines}
 use Rattle.answer_text.specs.Lines.{text_of_lines}
-use Rattle.answer_text.specs.Drafts.{IsDraft, PowersBlank, RowBlank, RowsBlank, SoFar, so_far, all_lines}
+use Rattle.answer_text.specs.Drafts.{IsDraft, PowersBlank, RowBlank, RowsBlank, so_far, all_lines}
 use Rattle.answer_text.specs.BodyRead.{Leads, body_lines, IsBodyRead}
-use Rattle.answer_text.proofs.FormLaws.{offered-small}
 use Rattle.answer_text.proofs.RelationAppends.{power_lines-blank, rows-blank}
 
 syllables_of-zeros : (k n : ℕ) → syllables_of k (zeros n) ≡ []

@@ -1,11 +1,10 @@
 -- Where all lines were read, the fault is at the last line, and an answer with this text is the answer of what was read.
-use Rattle.std.proofs.Common.{◌≡◌, ◌≤◌, ◌+◌, ℕ, zero, suc, List, [], ◌∷◌, ◌++◌, length, map, refl, ap, ap₂, sym, subst, ◌∙◌, inl, inr, arith, append_assoc, length-append}
+use Rattle.std.proofs.Common.{◌≡◌, ◌≤◌, ◌+◌, ℕ, zero, suc, List, [], ◌∷◌, ◌++◌, length, map, refl, ap, ap₂, sym, subst, ◌∙◌, inr, arith, append_assoc, length-append}
 use Rattle.std.specs.Prelude.{codes}
 use Rattle.std.proofs.lemmas.List.{length-map}
 use Rattle.std.proofs.lemmas.List.Elements.{All-head, All-tail}
 use Rattle.pq_base.specs.Presentation.{Presentation, IsPresentation}
-use Rattle.pq_base.specs.Prime.{IsOffered}
-use Rattle.pq_base.specs.Answer.{Answer, IsAnswer, Definition as Meaning}
+use Rattle.pq_base.specs.Answer.{Answer, IsAnswer}
 use Rattle.pc_presentation.specs.declared.syllable.Syllable.{Syllable}
 use Rattle.pc_presentation.specs.declared.definition.Definition.{Definition}
 use Rattle.pc_presentation.specs.Syllable.{AreSyllables, spread, syllables_of}
@@ -15,17 +14,16 @@ use Rattle.pc_presentation.proofs.SyllableLaws.{syllables_of-spread}
 use Rattle.pc_presentation.proofs.PcpLaws.{offered-positive}
 use Rattle.pc_presentation.proofs.PartsLaws.{AreNormal-spread}
 use Rattle.answer_text.specs.declared.source.Source.{Source}
-use Rattle.answer_text.specs.declared.fault.AnswerFault.TheVariants.{Line}
 use Rattle.answer_text.specs.Lines.{text_of_lines}
-use Rattle.answer_text.specs.AnswerText.{answer_text, head_lines, image_line, image_lines, power_lines, commutator_lines}
+use Rattle.answer_text.specs.AnswerText.{answer_text, head_lines, image_lines, power_lines, commutator_lines}
 use Rattle.answer_text.specs.OneText.{IsWritable}
-use Rattle.answer_text.specs.AnswerPlaces.{Place, IsScale, word_line}
+use Rattle.answer_text.specs.AnswerPlaces.{IsScale, word_line}
 use Rattle.answer_text.specs.AnswerPlaces.Place.{for_prime, in_body, at_end}
 use Rattle.answer_text.specs.AnswerPlaces.HasForm.{last}
-use Rattle.answer_text.specs.AnswerFaults.{IsWhole, IsAnswerText, IsFaultLine, IsFaultOf}
+use Rattle.answer_text.specs.AnswerFaults.{IsWhole, IsAnswerText, IsFaultLine}
 use Rattle.answer_text.specs.ReadSoFar.{word_lines, source_lines}
 use Rattle.answer_text.specs.Sources.{AreResolved}
-use Rattle.answer_text.specs.Drafts.{SoFar, all_lines}
+use Rattle.answer_text.specs.Drafts.{SoFar}
 use Rattle.answer_text.specs.BodyRead.{Leads, body_lines, IsBodyRead, IsRead}
 use Rattle.answer_text.proofs.LineLaws.{text_of_lines-append}
 use Rattle.answer_text.proofs.AnswerForm.{Leads-append}

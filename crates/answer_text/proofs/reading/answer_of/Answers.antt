@@ -1,5 +1,4 @@
-use Rattle.std.proofs.Common.{◌≡◌, ◌++◌, ℕ, true, false, List, map, ap, sym, subst, ◌∙◌}
-use Rattle.pq_base.specs.Presentation.{IsPresentation}
+use Rattle.std.proofs.Common.{◌≡◌, ℕ, true, false, List, map, sym, subst, ◌∙◌}
 use Rattle.pc_presentation.specs.declared.syllable.Syllable.{Syllable}
 use Rattle.pc_presentation.specs.declared.definition.Definition.{Definition}
 use Rattle.pc_presentation.specs.Definition.{definition_of}

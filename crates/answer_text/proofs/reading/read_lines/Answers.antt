@@ -1,11 +1,11 @@
-use Rattle.std.proofs.Common.{◌≡◌, ◌+◌, ℕ, [], List, length, map, ap, sym, subst, ◌∙◌, arith}
+use Rattle.std.proofs.Common.{◌≡◌, ◌+◌, ℕ, [], List, ap, sym, subst, ◌∙◌}
 use Rattle.pq_base.specs.Prime.{prime_value}
 use Rattle.pc_presentation.specs.declared.syllable.Syllable.{Syllable}
 use Rattle.pc_presentation.specs.Builder.{Draft, empty_draft}
 use Rattle.pc_presentation.specs.Parts.{words_of}
 use Rattle.pc_presentation.proofs.PcpLaws.{offered-positive}
 use Rattle.answer_text.specs.AnswerPlaces.{IsScale}
-use Rattle.answer_text.specs.AnswerPlaces.Place.{for_prime, in_body}
+use Rattle.answer_text.specs.AnswerPlaces.Place.{for_prime}
 use Rattle.answer_text.specs.ReadSoFar.{IsBadAt}
 use Rattle.answer_text.specs.Drafts.{so_far}
 use Rattle.answer_text.specs.BodyRead.{IsBodyRead}

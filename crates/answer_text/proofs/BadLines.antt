@@ -18,7 +18,7 @@ use Rattle.answer_text.proofs.Splits.{nil-split, split-same}
 use Rattle.answer_text.proofs.PieceTexts.{avoids-not}
 use Rattle.answer_text.proofs.FormLaws.{avoids-form}
 use Rattle.answer_text.proofs.FaultLaws.{IsFirstBad-here, IsFirstBad-step}
-use Rattle.answer_text.proofs.AnswerForm.{Leads}
+use Rattle.answer_text.specs.BodyRead.{Leads}
 
 -- not the place behind the last line
 abbrev pub IsOpen : Place → Type 0

@@ -17,7 +17,7 @@ use Rattle.answer_text.specs.AnswerPlaces.HasForm.{relation, image}
 use Rattle.answer_text.specs.ReadSoFar.{word_lines}
 use Rattle.answer_text.specs.Drafts.{IsDraft, IsNext, SoFar, so_far, AddsRelation, AddsImage, Adds, all_lines}
 use Rattle.answer_text.specs.BodyRead.{Leads, body_lines, IsBodyRead}
-use Rattle.answer_text.proofs.AnswerForm.{Leads-append}
+use Rattle.answer_text.proofs.LineLeads.{Leads-append}
 use Rattle.answer_text.proofs.BadLines.{text-push}
 use Rattle.answer_text.proofs.RelationAppends.{PowersBlank-later, RowsBlank-later}
 use Rattle.answer_text.proofs.DraftAdded.{draft-added}

@@ -10,7 +10,7 @@ use Rattle.answer_text.specs.AnswerPlaces.{Place, IsScale}
 use Rattle.answer_text.specs.AnswerPlaces.Place.{for_prime, in_body}
 use Rattle.answer_text.specs.AnswerFaults.{IsFirstBad, IsFaultOf}
 use Rattle.answer_text.specs.ReadSoFar.{IsBadAt, IsHead, source_lines, AreSources}
-use Rattle.answer_text.proofs.AnswerForm.{Leads}
+use Rattle.answer_text.specs.BodyRead.{Leads}
 use Rattle.answer_text.proofs.BadLines.{IsFirstBad-behind, head-leads, sources-lead, length-source_lines}
 
 pub IsFaultOf-bad : (bytes : List ℕ) (f : AnswerFault) → IsBadAt for_prime bytes 1 f → IsFaultOf bytes f

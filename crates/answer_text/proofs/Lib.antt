@@ -16,6 +16,7 @@ pub mod HeadTold
 pub mod OneText
 mod FormLaws
 mod FaultLaws
+mod LineLeads
 mod AnswerForm
 mod NumberTexts
 mod FirstPlaces

@@ -26,7 +26,7 @@ use Rattle.answer_text.specs.Sources.{AreResolved}
 use Rattle.answer_text.specs.Drafts.{SoFar}
 use Rattle.answer_text.specs.BodyRead.{Leads, body_lines, IsBodyRead, IsRead}
 use Rattle.answer_text.proofs.LineLaws.{text_of_lines-append}
-use Rattle.answer_text.proofs.AnswerForm.{Leads-append}
+use Rattle.answer_text.proofs.LineLeads.{Leads-append}
 use Rattle.answer_text.proofs.BadLines.{IsWhole-after, head-leads, sources-lead, length-source_lines}
 use Rattle.answer_text.proofs.AnswerRead.{IsBody, body_text, read_text, answer-told}
 

@@ -1,5 +1,5 @@
-//! Answers as texts: `text` writes the one text of an answer, and `json` the one JSON text. What they are is a function of
-//! the answer in `specs/`.
+//! Answers as texts: `text` writes the one text of an answer, `read_answer` reads it or tells the line of its first fault,
+//! and `json` writes the one JSON text. What the texts are is a function of the answer in `specs/`.
 #![tactic(auto)]
 
 pub mod fault;

@@ -47,6 +47,7 @@ struct Reading {
     end: u32,
 }
 
+/// All lines of a text, or the first that hasn't the form of a line in its place.
 fn read_lines(alloc: Global, bytes: &[u8]) -> Result<Reading, AnswerFault>
     requires { length bytes.now < 2 ^ 32 - 1 }
     ensures ok { IfOk result (λ r. IsRead bytes.now r.end r.sources.items (so_far r.body.builder r.body.last r.body.names.items (words_of r.body.images.items))) }

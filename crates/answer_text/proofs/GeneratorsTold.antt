@@ -40,7 +40,7 @@ avoids-definition p names (commutator j i) small a t =
 avoids-definition p names (power j) small a t =
     avoids-append 10 (decimal j) (94 ∷ decimal p) (avoids-decimal 10 j (λ n l e. omega arith) t) (avoids-decimal 10 p (λ n l e. omega arith) (omega arith))
 
-place-same : (names : List (List ℕ)) (i j : ℕ) → AreDistinct names → i < length names → j < length names → get_or names i [] ≡ get_or names j [] → i ≡ j
+pub place-same : (names : List (List ℕ)) (i j : ℕ) → AreDistinct names → i < length names → j < length names → get_or names i [] ≡ get_or names j [] → i ≡ j
 place-same names i j distinct h g same = elim (dec_lt i j) [
   | yes less ↦ absurd (distinct i j less g same)
   | no other ↦ elim (dec_lt j i) [

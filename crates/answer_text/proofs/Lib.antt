@@ -14,3 +14,24 @@ pub mod ImagesTold
 pub mod GeneratorsTold
 pub mod HeadTold
 pub mod OneText
+mod FormLaws
+mod FaultLaws
+mod LineLeads
+mod AnswerForm
+mod NumberTexts
+mod FirstPlaces
+mod PieceTexts
+mod WordSteps
+mod SourceLines
+mod RelationAppends
+mod AnswerRead
+mod LineTexts
+mod BadLines
+mod GeneratorsRead
+mod RelationAdded
+mod FaultsOfParts
+mod DraftAdded
+mod BodyStart
+mod BodyAdded
+mod BodyFaults
+mod ReadLines

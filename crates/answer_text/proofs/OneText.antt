@@ -27,7 +27,7 @@ offered-small p h = elim h [
   ]
 ]
 
-last-small : (least : ℕ) (ws : List ℕ) → AreWeights least ws → last_or_zero ws ≤ 60
+pub last-small : (least : ℕ) (ws : List ℕ) → AreWeights least ws → last_or_zero ws ≤ 60
 last-small least [] a = omega arith
 last-small least (w ∷ []) a = a.1
 last-small least (w ∷ v ∷ ws) a = last-small w (v ∷ ws) a.2
@@ -52,14 +52,14 @@ module _ (P Q : Presentation) (prime : P.prime ≡ Q.prime) (rank : P.rank ≡ Q
       let two : suc i + length f ≡ Q.rank = m.count in
       record { long = omega arith; short = omega arith; left = l.below; right = subst (λ (q : ℕ). AllBelow q f) (sym prime) m.below }
 
-  powers-alike : SidesAlike P.prime P.powers Q.powers
+  pub powers-alike : SidesAlike P.prime P.powers Q.powers
   powers-alike =
       let one : length P.powers ≡ P.rank = a.power_count in
       let two : length Q.powers ≡ Q.rank = b.power_count in
       sides-alike P.prime P.powers Q.powers (omega arith)
       (λ i l. later-alike i (power_side P i) (power_side Q i) (a.power_sides i (omega arith)) (b.power_sides i (omega arith)))
 
-  commutators-alike : RowsAlike P.prime P.commutators Q.commutators
+  pub commutators-alike : RowsAlike P.prime P.commutators Q.commutators
   commutators-alike =
       let one : length P.commutators ≡ P.rank = a.commutator_count in
       let two : length Q.commutators ≡ Q.rank = b.commutator_count in
@@ -70,7 +70,7 @@ module _ (P Q : Presentation) (prime : P.prime ≡ Q.prime) (rank : P.rank ≡ Q
       sides-alike P.prime (get_or P.commutators j []) (get_or Q.commutators j []) (omega arith)
       (λ i m. later-alike j (commutator_side P j i) (commutator_side Q j i) (a.commutator_sides j i (omega arith) (omega arith)) (b.commutator_sides j i (omega arith) (omega arith))))
 
-short-rows : (P : Presentation) → P.rank ≤ 100 → IsPresentation P → AreShortRows P.commutators
+pub short-rows : (P : Presentation) → P.rank ≤ 100 → IsPresentation P → AreShortRows P.commutators
 short-rows P limit a i l =
     let long : length P.commutators ≡ P.rank = a.commutator_count in
     let entries : length (get_or P.commutators i []) ≡ i = a.commutator_counts i (omega arith) in
@@ -95,10 +95,10 @@ all-told A w =
     let limit : A.presentation.rank ≤ 100 = w.rank_limit in
     AreTold-each A.names A.definitions (λ k l. told A k (definition_at A k) (omega arith) w.answer.image_count (w.answer.definitions k (omega arith)))
 
-presentation-same : (P Q : Presentation) → P.prime ≡ Q.prime → P.rank ≡ Q.rank → P.powers ≡ Q.powers → P.commutators ≡ Q.commutators → P ≡ Q
+pub presentation-same : (P Q : Presentation) → P.prime ≡ Q.prime → P.rank ≡ Q.rank → P.powers ≡ Q.powers → P.commutators ≡ Q.commutators → P ≡ Q
 presentation-same P Q e1 e2 e3 e4 = λ i. record { prime = e1 i; rank = e2 i; powers = e3 i; commutators = e4 i }
 
-answer-same : (A B : Answer) → A.presentation ≡ B.presentation → A.weights ≡ B.weights → A.names ≡ B.names → A.definitions ≡ B.definitions → A.images ≡ B.images → A ≡ B
+pub answer-same : (A B : Answer) → A.presentation ≡ B.presentation → A.weights ≡ B.weights → A.names ≡ B.names → A.definitions ≡ B.definitions → A.images ≡ B.images → A ≡ B
 answer-same A B e1 e2 e3 e4 e5 = λ i. record { presentation = e1 i; weights = e2 i; names = e3 i; definitions = e4 i; images = e5 i }
 
 -- what follows the powers, and what follows the head, where the prime is p

@@ -54,7 +54,7 @@ NoRelation-relation left other (s ∷ w) more apart n x h =
     let whole : with_left other (word_text (s ∷ w) ++ 10 ∷ more) ≡ with_left left x = sym (relation_text-some other s w more) ∙ h in
     apart (codes " = " ++ (word_text (s ∷ w) ++ 10 ∷ more)) (codes " = " ++ x) (ap (λ (t : List ℕ). drop 9 t) whole)
 
-power_text-long : (p j : ℕ) (x : List ℕ) → power_text p j ++ x ≡ 97 ∷ (decimal j ++ 94 ∷ (decimal p ++ x))
+pub power_text-long : (p j : ℕ) (x : List ℕ) → power_text p j ++ x ≡ 97 ∷ (decimal j ++ 94 ∷ (decimal p ++ x))
 power_text-long p j x = simp append_assoc
 
 commutator_text-long : (j i : ℕ) (x : List ℕ) → commutator_text j i ++ x ≡ 91 ∷ 97 ∷ (decimal j ++ 44 ∷ 97 ∷ (decimal i ++ 93 ∷ x))

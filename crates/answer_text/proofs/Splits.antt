@@ -1,9 +1,10 @@
 -- A text is split at a byte in one way only, where what stands before the byte has none of its kind. So decimal numbers
 -- that a byte ends are told apart.
-use Rattle.std.proofs.Common.{◌≡◌, ◌≢◌, ◌<◌, ◌+◌, ◌%◌, ◌^◌, ℕ, suc, Bool, true, false, cond, eqb, List, [], ◌∷◌, ◌++◌, get_or, length, drop, decimal, refl, ap, ap₂, sym, arith}
+use Rattle.std.proofs.Common.{◌≡◌, ◌≢◌, ◌<◌, ◌+◌, ◌%◌, ◌^◌, ℕ, suc, true, false, cond, eqb, List, [], ◌∷◌, ◌++◌, get_or, length, drop, decimal, refl, ap, ap₂, sym, arith}
 use Rattle.std.proofs.lemmas.List.{length-append}
 use Rattle.std.proofs.lemmas.Fmt.{decimal_injective, decimal_by_steps}
 use borrow.Author.Tests.{eqb-true, eqb-false}
+pub use Rattle.answer_text.specs.Lines.{avoids}
 
 pub first-same : {X : Type 0} (x y : X) (xs ys : List X) → x ∷ xs ≡ y ∷ ys → x ≡ y
 first-same {X} x y xs ys h = ap (λ (l : List X). get_or l 0 x) h
@@ -22,12 +23,7 @@ nil-split c xs us h =
 pub first-apart : (a b : ℕ) (xs ys : List ℕ) → eqb a b ≡ false → a ∷ xs ≡ b ∷ ys → ⊥
 first-apart a b xs ys other h = eqb-false a b other (first-same a b xs ys h)
 
--- the byte c isn't in the text
-abbrev pub avoids : ℕ → List ℕ → Bool
-avoids c [] = true
-avoids c (b ∷ bs) = cond (eqb b c) false (avoids c bs)
-
-avoids-parts : (c b : ℕ) (bs : List ℕ) → avoids c (b ∷ bs) ≡ true → (b ≢ c) × (avoids c bs ≡ true)
+pub avoids-parts : (c b : ℕ) (bs : List ℕ) → avoids c (b ∷ bs) ≡ true → (b ≢ c) × (avoids c bs ≡ true)
 avoids-parts c b bs = elim (eqb b c) as (λ t. eqb b c ≡ t → cond t false (avoids c bs) ≡ true → (b ≢ c) × (avoids c bs ≡ true)) [
   | true ↦ λ e h. cc
   | false ↦ λ e h. (eqb-false b c e, h)

@@ -6,6 +6,7 @@ use Rattle.pc_presentation.specs.declared.syllable.Syllable.{Syllable}
 use Rattle.pc_presentation.specs.Syllable.{syllable, spread, syllables_of}
 use Rattle.pc_presentation.proofs.SyllableLaws.{spread-syllables_of}
 use Rattle.answer_text.specs.Words.{exponent_text, syllable_text, further_text, word_text}
+pub use Rattle.answer_text.specs.Words.{IsWritten}
 use Rattle.answer_text.proofs.Splits.{first-apart, nil-split, avoids, avoids-cons, avoids-append, avoids-decimal, split-same, decimal-same}
 
 -- what stands behind the first `^`, where one more ends the exponent
@@ -27,10 +28,6 @@ after_power-same (suc zero) (suc (suc f)) a b c d h = absurd (nil-split 94 (deci
 after_power-same (suc (suc e)) (suc zero) a b c d h = absurd (nil-split 94 (decimal (suc (suc e))) [] (sym h))
 after_power-same (suc (suc e)) (suc (suc f)) a b c d h = (decimal-same 94 (suc (suc e)) (suc (suc f)) [] [] (λ n l i. omega arith) c d h).0
 
--- numbers that can be written and told apart
-abbrev pub IsWritten : Syllable → Type 0
-IsWritten s = (s.generator < 1000) × (1 ≤ s.exponent) × (s.exponent < 1000)
-
 abbrev pub AreWritten : List Syllable → Type 0
 AreWritten [] = Unit {0}
 AreWritten (s ∷ w) = IsWritten s × AreWritten w
@@ -38,13 +35,15 @@ AreWritten (s ∷ w) = IsWritten s × AreWritten w
 syllable_text-ended : (g e : ℕ) → (decimal g ++ exponent_text e) ++ 94 ∷ [] ≡ decimal g ++ (94 ∷ after_power e)
 syllable_text-ended g e = append_assoc (decimal g) (exponent_text e) (94 ∷ []) ∙ ap (λ (x : List ℕ). decimal g ++ x) (exponent_text-ended e)
 
-syllable_text-same : (s t : Syllable) → IsWritten s → IsWritten t → syllable_text s ≡ syllable_text t → s ≡ t
+pub syllable_text-same : (s t : Syllable) → IsWritten s → IsWritten t → syllable_text s ≡ syllable_text t → s ≡ t
 syllable_text-same s t a b h =
+    let low : s.exponent < 1000 = omega (arith, a.2) in
+    let high : t.exponent < 1000 = omega (arith, b.2) in
     let ended : (decimal s.generator ++ exponent_text s.exponent) ++ 94 ∷ [] ≡ (decimal t.generator ++ exponent_text t.exponent) ++ 94 ∷ [] =
     ap (λ (x : List ℕ). drop 1 x ++ 94 ∷ []) h in
     let parts = decimal-same 94 s.generator t.generator (after_power s.exponent) (after_power t.exponent) (λ n l i. omega arith) a.0 b.0
     (sym (syllable_text-ended s.generator s.exponent) ∙ ended ∙ syllable_text-ended t.generator t.exponent) in
-    ap₂ (λ (g e : ℕ). syllable g e) parts.0 (after_power-same s.exponent t.exponent a.1 b.1 a.2 b.2 parts.1)
+    ap₂ (λ (g e : ℕ). syllable g e) parts.0 (after_power-same s.exponent t.exponent a.1 b.1 low high parts.1)
 
 -- a byte that words don't have
 pub record IsOutside (c : ℕ) : Type 0 where
@@ -60,9 +59,9 @@ avoids-exponent c (suc (suc e)) o h l = avoids-cons c 94 (decimal (suc (suc e)))
 pub avoids-generator : (c g : ℕ) → IsOutside c → g < 1000 → avoids c (97 ∷ decimal g) ≡ true
 avoids-generator c g o h = avoids-cons c 97 (decimal g) o.no_letter (avoids-decimal c g o.no_digit h)
 
-avoids-syllable : (c : ℕ) (s : Syllable) → IsOutside c → IsWritten s → avoids c (syllable_text s) ≡ true
+pub avoids-syllable : (c : ℕ) (s : Syllable) → IsOutside c → IsWritten s → avoids c (syllable_text s) ≡ true
 avoids-syllable c s o a =
-    avoids-append c (97 ∷ decimal s.generator) (exponent_text s.exponent) (avoids-generator c s.generator o a.0) (avoids-exponent c s.exponent o a.1 a.2)
+    avoids-append c (97 ∷ decimal s.generator) (exponent_text s.exponent) (avoids-generator c s.generator o a.0) (avoids-exponent c s.exponent o a.1 (omega (arith, a.2)))
 
 pub newline : IsOutside 10
 newline = record { no_digit = λ d l e. omega arith; no_letter = λ e. omega arith; no_power = λ e. omega arith }
@@ -71,7 +70,7 @@ avoids-further : (w : List Syllable) → AreWritten w → avoids 10 (further_tex
 avoids-further [] a = refl
 avoids-further (s ∷ w) a = avoids-append 10 (syllable_text s) (further_text w) (avoids-syllable 10 s newline a.0) (avoids-further w a.1)
 
-star : IsOutside 42
+pub star : IsOutside 42
 star = record { no_digit = λ d l e. omega arith; no_letter = λ e. omega arith; no_power = λ e. omega arith }
 
 pub avoids-word : (w : List Syllable) → AreWritten w → avoids 10 (word_text w) ≡ true
@@ -105,7 +104,7 @@ word_text-same (s ∷ v) (t ∷ w) a b h =
     after_star-same (s ∷ v) (t ∷ w) a b
     (sym (append_assoc (syllable_text s) (further_text v) (42 ∷ [])) ∙ ap (λ (x : List ℕ). x ++ 42 ∷ []) h ∙ append_assoc (syllable_text t) (further_text w) (42 ∷ []))
 
-pub AreWritten-syllables_of : (p k : ℕ) (e : List ℕ) → p < 1000 → k + length e < 1000 → AllBelow p e → AreWritten (syllables_of k e)
+pub AreWritten-syllables_of : (p k : ℕ) (e : List ℕ) → p ≤ 100 → k + length e < 1000 → AllBelow p e → AreWritten (syllables_of k e)
 AreWritten-syllables_of p k [] small h b = tt
 AreWritten-syllables_of p k (zero ∷ es) small h b = AreWritten-syllables_of p (suc k) es small (omega arith) b.1
 AreWritten-syllables_of p k (suc x ∷ es) small h b =

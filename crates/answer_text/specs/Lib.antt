@@ -3,3 +3,10 @@ pub mod Words
 pub mod AnswerText
 pub mod AnswerData
 pub mod OneText
+pub mod AnswerPlaces
+pub mod AnswerFaults
+pub mod Numbers
+pub mod Sources
+pub mod ReadSoFar
+pub mod Drafts
+pub mod BodyRead

@@ -1,5 +1,5 @@
 -- Words of a presentation as texts: `a1*a2^3`, and `1` for the empty word.
-use Rattle.std.specs.Prelude.{◌≤◌, All, ℕ, zero, suc, List, [], ◌∷◌, ◌++◌, codes, decimal}
+use Rattle.std.specs.Prelude.{◌<◌, ◌≤◌, All, ℕ, zero, suc, List, [], ◌∷◌, ◌++◌, codes, decimal}
 use Rattle.pc_presentation.specs.declared.syllable.Syllable.{Syllable}
 
 -- generator number k
@@ -27,3 +27,7 @@ word_text (s ∷ ss) = syllable_text s ++ further_text ss
 -- no exponent is 0
 abbrev pub AreExponents : List Syllable → Type 0
 AreExponents w = All (λ s. 1 ≤ s.exponent) w
+
+-- a syllable that a text can hold
+abbrev pub IsWritten : Syllable → Type 0
+IsWritten s = (s.generator < 1000) × (1 ≤ s.exponent) × (s.exponent < 100)

@@ -1,14 +1,24 @@
-//! Answers as texts: `text` writes the one text of an answer, and `json` the one JSON text. What they are is a function of
-//! the answer in `specs/`.
+//! Answers as texts: `text` writes the one text of an answer, `read_answer` reads it or tells the line of its first fault,
+//! and `json` writes the one JSON text. What the texts are is a function of the answer in `specs/`.
 #![tactic(auto)]
 
+pub mod fault;
 mod json_text;
 pub mod laws;
+mod line_reading;
+mod pieces;
+mod reading;
+#[cfg(test)]
+mod reading_tests;
+mod source;
 #[cfg(test)]
 mod tests;
 mod values;
+mod word_reading;
 mod words;
 mod writing;
 
+pub use fault::AnswerFault;
 pub use json_text::json;
+pub use reading::read_answer;
 pub use writing::text;

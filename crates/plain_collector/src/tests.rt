@@ -5,7 +5,7 @@ use fp_rows::Row;
 use pc_presentation::{
     Collect, Elem, Overlap, Pcp, PcpBuilder, Relation, Scratch, Syllable, two_ways,
 };
-use pq_base::Prime;
+use pq_base::{NoMemory, Prime};
 use std::alloc::Global;
 use std::process::Abort;
 use std::test::Fail;
@@ -90,10 +90,23 @@ fn reach(s: &Scratch<Plain>, reached: Reached) -> bool {
         && difference(left, right) == reached.difference
 }
 
+/// Whether both ways of an overlap, which is one of the presentation, reach this.
+fn ways_reach(
+    rt: &impl Abort,
+    alloc: Global,
+    pcp: &Pcp,
+    overlap: Overlap,
+    reached: Reached,
+) -> Result<bool, NoMemory> {
+    let mut s = Scratch::<Plain>::new(alloc, pcp)?;
+    assert!(rt; overlap.is_of(pcp.rank()));
+    two_ways(&mut s, pcp, overlap);
+    Ok(reach(&s, reached))
+}
+
 #[test]
 fn both_ways_of_the_overlaps_of_a_cover(rt: HostRuntime) -> Result<(), Fail> {
     let pcp = cover(rt.alloc())?;
-    let mut s = Scratch::<Plain>::new(rt.alloc(), &pcp)?;
     let none = [0; 5];
     let rows = [
         (Overlap::Triple(3, 2, 1), [1, 1, 0], [1, 1, 1, 0, 0], none),
@@ -118,14 +131,15 @@ fn both_ways_of_the_overlaps_of_a_cover(rt: HostRuntime) -> Result<(), Fail> {
         (Overlap::Own(3), [0, 0, 1], [0, 0, 1, 0, 0], none),
     ];
     for (overlap, exponents, tails, difference) in rows {
-        assert!(rt; overlap.is_of(pcp.rank()));
         let reached = Reached {
             exponents,
             tails,
             difference,
         };
-        two_ways(&mut s, &pcp, overlap);
-        assert!(rt; reach(&s, reached), "at {overlap:?}");
+        assert!(rt;
+            ways_reach(&rt, rt.alloc(), &pcp, overlap, reached)?,
+            "at {overlap:?}"
+        );
     }
     Ok(())
 }

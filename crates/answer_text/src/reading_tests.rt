@@ -1,4 +1,5 @@
 use crate::{AnswerFault, json, read_answer, text};
+use pc_presentation::Answer;
 use std::alloc::Global;
 use std::test::Fail;
 
@@ -385,8 +386,16 @@ const FAULTS: [(&str, u32); 77] = [
     ),
 ];
 
+/// The answer that a short text is.
+fn read_short(alloc: Global, text: &str) -> Result<Answer, AnswerFault> {
+    if text.len() > 1000 {
+        return Err(AnswerFault::NoMemory);
+    }
+    read_answer(alloc, text.as_bytes())
+}
+
 fn is_read_back(alloc: Global, bytes: &str) -> Result<bool, Fail> {
-    match read_answer(alloc, bytes.as_bytes()) {
+    match read_short(alloc, bytes) {
         Ok(answer) => Ok(text(alloc, &answer)?.as_slice() == bytes.as_bytes()),
         Err(_) => Ok(false),
     }
@@ -407,7 +416,7 @@ fn texts_of_answers(rt: HostRuntime) -> Result<(), Fail> {
             "prime 3\nclass 2\nrank 2\norder 3^2\ngenerator a1 weight 1 from image x\ngenerator a2 weight 2 from a1^3\nrelation a1^3 = a2\nimage x = a1\nimage y = a1^2*a2^2\nend\n"
         )?
     );
-    match read_answer(rt.alloc(), DIHEDRAL.as_bytes()) {
+    match read_short(rt.alloc(), DIHEDRAL) {
         Ok(answer) => assert_eq!(rt;
             json(rt.alloc(), &answer)?.as_slice(),
             DIHEDRAL_JSON.as_bytes()
@@ -420,7 +429,7 @@ fn texts_of_answers(rt: HostRuntime) -> Result<(), Fail> {
 #[test]
 fn first_faults(rt: HostRuntime) -> Result<(), Fail> {
     for (bytes, line) in &FAULTS {
-        match read_answer(rt.alloc(), bytes.as_bytes()) {
+        match read_short(rt.alloc(), bytes) {
             Ok(_) => return Err(Fail::new("an answer")),
             Err(fault) => assert_eq!(rt; fault, AnswerFault::Line(*line)),
         }

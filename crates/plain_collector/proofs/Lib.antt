@@ -1,3 +1,4 @@
+pub mod ImageLists
 pub mod Leads
 pub mod PlainSteps
 pub mod Progress

@@ -10,7 +10,7 @@ use std::process::Abort;
 use std::test::Fail;
 
 /// A generator as an element.
-fn generator(rt: &impl Abort, alloc: Global, pcp: &Pcp, i: u16) -> Result<Elem, NoMemory>
+pub(crate) fn generator(rt: &impl Abort, alloc: Global, pcp: &Pcp, i: u16) -> Result<Elem, NoMemory>
     ensures { IfOk result (λ e. IsElement pcp.now e) }
 {
     let mut plain = Plain::fresh(alloc, pcp)?;
@@ -20,7 +20,7 @@ fn generator(rt: &impl Abort, alloc: Global, pcp: &Pcp, i: u16) -> Result<Elem, 
 }
 
 /// Whether an element has these exponents.
-fn is_of(at: &Elem, exponents: [u8; 4]) -> bool {
+pub(crate) fn is_of(at: &Elem, exponents: [u8; 4]) -> bool {
     at.exponents() == exponents.as_slice()
 }
 

@@ -6,6 +6,9 @@
 mod arithmetic_tests;
 #[cfg(test)]
 mod by_definition;
+#[cfg(test)]
+mod evaluation_tests;
+pub mod laws;
 pub mod plain;
 #[cfg(test)]
 mod random_tests;

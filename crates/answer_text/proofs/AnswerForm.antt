@@ -3,7 +3,7 @@ use Rattle.std.proofs.Common.{◌≡◌, ◌<◌, ◌≤◌, ◌+◌, ℕ, zero,
 use Rattle.std.specs.Prelude.{codes}
 use Rattle.pq_base.specs.Name.{IsName}
 use Rattle.pq_base.specs.Table.{AllBelow}
-use Rattle.pq_base.specs.Answer.{Answer, Definition, HasDefinition, AreWeights, AreNormal, class_of, last_or_zero, definition_at}
+use Rattle.pq_base.specs.Answer.{Answer, Definition, HasDefinition, AreNormal, class_of, definition_at}
 use Rattle.pq_base.specs.Answer.Definition.{image, commutator, power}
 use Rattle.pc_presentation.specs.Syllable.{syllables_of}
 use Rattle.pc_presentation.proofs.SyllableLaws.{AreSyllables-syllables_of}
@@ -14,6 +14,7 @@ use Rattle.answer_text.specs.AnswerPlaces.Place.{for_prime, for_class, for_rank,
 use Rattle.answer_text.specs.AnswerPlaces.HasForm.{prime, class, rank, order, image as image_form, last}
 use Rattle.answer_text.specs.AnswerFaults.{IsWhole, FaultsAreNoAnswers}
 use Rattle.answer_text.specs.BodyRead.{Leads}
+use Rattle.answer_text.proofs.OneText.{last-small}
 use Rattle.answer_text.proofs.LineLeads.{AreFit, ArePowers, AreRow, AreRows, IsFit, IsWhole-Leads, Leads-append, generators-lead, powers-reach, rows-reach}
 
 images-lead : (p n m : ℕ) (names es : List (List ℕ)) → IsScale p n → AreNames names → AreNormal p n es → Leads (in_body p n zero m) (image_lines names es ++ codes "end" ∷ []) at_end
@@ -71,11 +72,6 @@ AreFit-each : (n : ℕ) (names : List (List ℕ)) (ds : List Definition) → ((k
 AreFit-each n names [] h = tt
 AreFit-each n names (d ∷ ds) h = (h 0 (omega arith), AreFit-each n names ds (λ k l. h (suc k) (omega arith)))
 
-last-within : (least : ℕ) (ws : List ℕ) → AreWeights least ws → last_or_zero ws ≤ 60
-last-within least [] a = omega arith
-last-within least (w ∷ []) a = a.1
-last-within least (w ∷ v ∷ ws) a = last-within w (v ∷ ws) a.2
-
 body-lead : (A : Answer) → IsWritable A → Leads (in_body A.presentation.prime A.presentation.rank zero 0)
     (power_lines A.presentation.prime 0 A.presentation.powers ++ (commutator_lines 0 A.presentation.commutators ++ (image_lines A.names A.images ++ codes "end" ∷ []))) at_end
 body-lead A w =
@@ -113,7 +109,7 @@ answer-leads A w =
       prime p w.prime,
       (
         for_rank p,
-        class p (class_of A) (last-within 1 A.weights w.answer.weights),
+        class p (class_of A) (last-small 1 A.weights w.answer.weights),
         (
           for_order p n,
           rank p n limit,

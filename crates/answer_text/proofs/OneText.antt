@@ -1,6 +1,5 @@
 -- One text has one answer: the text tells the head, the generators, the relations and the images, part by part.
-use Rattle.std.proofs.Common.{◌≡◌, ◌<◌, ◌≤◌, ◌+◌, ℕ, zero, suc, List, [], ◌∷◌, ◌++◌, get_or, length, map, ap, sym, subst, ◌∙◌, inl, inr, arith}
-use Rattle.pq_base.specs.Prime.{IsOffered}
+use Rattle.std.proofs.Common.{◌≡◌, ◌<◌, ◌≤◌, ◌+◌, ℕ, zero, suc, List, [], ◌∷◌, ◌++◌, get_or, length, map, ap, sym, subst, ◌∙◌, arith}
 use Rattle.pq_base.specs.Table.{AllBelow}
 use Rattle.pq_base.specs.Presentation.{Presentation, IsPresentation, IsLaterSide, power_side, commutator_side}
 use Rattle.pq_base.specs.Answer.{Answer, Definition, HasDefinition, AreWeights, AreNormal, last_or_zero, class_of, definition_at}
@@ -14,18 +13,7 @@ use Rattle.answer_text.proofs.RelationsTold.{AreShortRows, powers-same, rows-sam
 use Rattle.answer_text.proofs.ImagesTold.{images_text, NoRelation-images, images-same}
 use Rattle.answer_text.proofs.GeneratorsTold.{IsTold, AreTold, definitions-same, generators-same}
 use Rattle.answer_text.proofs.HeadTold.{head-same}
-
-offered-small : (p : ℕ) → IsOffered p → p < 100
-offered-small p h = elim h [
-  | inl two ↦ omega arith
-  | inr other ↦ elim other [
-    | inl three ↦ omega arith
-    | inr larger ↦ elim larger [
-      | inl five ↦ omega arith
-      | inr seven ↦ omega arith
-    ]
-  ]
-]
+use Rattle.answer_text.proofs.FormLaws.{offered-small}
 
 pub last-small : (least : ℕ) (ws : List ℕ) → AreWeights least ws → last_or_zero ws ≤ 60
 last-small least [] a = omega arith
@@ -119,7 +107,7 @@ module _ (A B : Answer) (v : IsWritable A) (w : IsWritable B) (prime : A.present
   rest-same : A ≡ B
   rest-same =
       let p : ℕ = A.presentation.prime in
-      let small : p < 100 = offered-small p v.prime in
+      let small : p < 100 = omega (arith, offered-small p v.prime) in
       let limit : A.presentation.rank ≤ 100 = v.rank_limit in
       let also : B.presentation.rank ≤ 100 = w.rank_limit in
       let lists : length A.weights ≡ A.presentation.rank = v.answer.weight_count in
@@ -151,8 +139,8 @@ pub one_text_one_answer : OneTextOneAnswer
 one_text_one_answer A B v w h =
     let limit : A.presentation.rank ≤ 100 = v.rank_limit in
     let also : B.presentation.rank ≤ 100 = w.rank_limit in
-    let small : A.presentation.prime < 100 = offered-small A.presentation.prime v.prime in
-    let low : B.presentation.prime < 100 = offered-small B.presentation.prime w.prime in
+    let small : A.presentation.prime < 100 = omega (arith, offered-small A.presentation.prime v.prime) in
+    let low : B.presentation.prime < 100 = omega (arith, offered-small B.presentation.prime w.prime) in
     let class : class_of A ≤ 60 = last-small 1 A.weights v.answer.weights in
     let other : class_of B ≤ 60 = last-small 1 B.weights w.answer.weights in
     let head = head-same A.presentation.prime (class_of A) A.presentation.rank B.presentation.prime (class_of B) B.presentation.rank

@@ -2,11 +2,13 @@
 //! and its status is the program's. Nothing else is read, and nothing is written to standard error.
 #![tactic(auto)]
 
-ghost use Rattle.std.specs.Prelude.{◌≡◌, ◌⊎◌};
+ghost use Rattle.std.specs.Prelude.{◌≡◌, ◌⊎◌, ◌↔◌, IfErr};
+ghost use Rattle.std.specs.IoError.{error_kind};
 
 use pq_base::Status;
 use pq_io::{StdSink, StdSource};
 use pq_run::{Words, run};
+use std::io::ErrorKind;
 use std::process::ExitCode;
 use std::{env, io};
 
@@ -24,7 +26,9 @@ fn main(rt: HostRuntime) -> ExitCode {
 }
 
 /// The words behind the program's name, or the status with which the program ends without them.
-fn words_of(rt: &HostRuntime) -> Result<Words, u8> {
+fn words_of(rt: &HostRuntime) -> Result<Words, u8>
+    ensures { IfErr result (λ status. (status ≡ 7) ⊎ (status ≡ 1)) }
+{
     let mut words = Words::new(rt.alloc());
     for word in env::args(rt).map_err(status_of)?.skip(1) {
         words
@@ -36,10 +40,11 @@ fn words_of(rt: &HostRuntime) -> Result<Words, u8> {
 
 /// The status for words that can't be had: 7 for want of memory, else 1, which no command ends with.
 fn status_of(error: io::Error) -> u8
-    ensures { (result ≡ 7) ⊎ (result ≡ 1) }
+    ensures either { (result ≡ 7) ⊎ (result ≡ 1) }
+    ensures memory { (result ≡ 7) ↔ (error_kind error ≡ ErrorKind.OutOfMemory) }
 {
     match error.kind() {
-        io::ErrorKind::OutOfMemory => Status::NoMemory.number(),
+        ErrorKind::OutOfMemory => Status::NoMemory.number(),
         _ => NO_WORDS,
     }
 }

@@ -1,0 +1,11 @@
+pub mod RowedAnswer
+pub mod Sources
+pub mod Covers
+pub mod Images
+pub mod EntryWords
+pub mod RowedLaws
+pub mod ImageTails
+pub mod Wanted
+pub mod Given
+pub mod Lifted
+pub mod CoverLaws

@@ -1,0 +1,4 @@
+pub mod AllOverlaps
+pub mod OverlapsLeft
+pub mod OverlapRows
+pub mod ConsistencyLaws

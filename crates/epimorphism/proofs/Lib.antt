@@ -1,0 +1,5 @@
+pub mod WordValues
+pub mod BaseValues
+pub mod LiftedImages
+pub mod RelatorRows
+pub mod RelatorVectors

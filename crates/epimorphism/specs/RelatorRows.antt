@@ -1,0 +1,40 @@
+-- The values of words over the given generators in a cover. Where such a value has no exponent, the word has a row: the
+-- tails of its value.
+-- From: the p-covering groups of Newman and O'Brien's method, in which the relators are enforced by linear algebra.
+use Rattle.std.specs.Prelude.{◌≡◌, ◌↔◌, ℕ, ℤ, List, [], length}
+use Rattle.pq_base.specs.SignedWord.{sub, HasLetters}
+use Rattle.pq_base.specs.Joined.{Joined, IsConsistent}
+use Rattle.pq_base.specs.Answer.{image_words}
+use Rattle.pq_base.specs.Elementary.{zeros}
+use Rattle.pc_presentation.specs.Rowed.{flat}
+use Rattle.pc_presentation.specs.Collection.{State, identity}
+use Rattle.pc_presentation.specs.Arithmetic.{IsMeaning, evaluate_from}
+use Rattle.pc_presentation.specs.Tailed.{rowed_presentation}
+use Rattle.pc_presentation.specs.ImageElements.{states_of}
+use Rattle.p_cover.specs.RowedAnswer.{tails_word}
+use Rattle.p_cover.specs.Covers.{CoverOf, IsCover, cover_presentation, rowed_cover}
+use Rattle.p_cover.specs.Images.{ImagesOf, AreLifted}
+
+-- the value of a word in a cover, by a collector's pushes, under images with their inverses
+abbrev pub value_under : CoverOf → (State → ℕ → State) → ImagesOf → List ℤ → State
+value_under C push f w = let Y = rowed_presentation (cover_presentation C) in
+    evaluate_from Y push (states_of f.elements) (states_of f.inverses) (identity Y Y.base.rank) w
+
+-- What is proved. Each statement is the contract of a function of `laws`.
+
+-- over a consistent answer a word has a row exactly where the answer kills it
+abbrev pub KilledRelatorsHaveRows : Type 0
+KilledRelatorsHaveRows = (C : CoverOf) → IsCover C → IsConsistent C.answer.presentation
+    → (push : State → ℕ → State) → IsMeaning (rowed_presentation (cover_presentation C)) push
+    → (f : ImagesOf) → AreLifted C push f → (w : List ℤ) → HasLetters (length C.answer.names) w
+    → (value_under C push f w).exponents ≡ zeros C.answer.presentation.rank ↔ Joined C.answer.presentation (sub w (image_words C.answer)) []
+
+-- rows that two collectors find for one word have joined words
+abbrev pub RowsOfTwoCollectorsDifferByTrivialRows : Type 0
+RowsOfTwoCollectorsDifferByTrivialRows = (C : CoverOf) → IsCover C → (push push' : State → ℕ → State)
+    → IsMeaning (rowed_presentation (cover_presentation C)) push → IsMeaning (rowed_presentation (cover_presentation C)) push'
+    → (f f' : ImagesOf) → AreLifted C push f → AreLifted C push' f' → (w : List ℤ) → HasLetters (length C.answer.names) w
+    → (value_under C push f w).exponents ≡ zeros C.answer.presentation.rank
+    → (value_under C push' f' w).exponents ≡ zeros C.answer.presentation.rank
+    → Joined (flat (rowed_presentation (cover_presentation C)))
+    (tails_word (rowed_cover C) (value_under C push f w).row) (tails_word (rowed_cover C) (value_under C push' f' w).row)

@@ -1,0 +1,14 @@
+use Rattle.std.proofs.Common.{ap, ◌∙◌}
+use Rattle.std.proofs.lemmas.List.{get_or_default}
+use Rattle.fp_rows.specs.Row.{at_column}
+use Rattle.fp_echelon.specs.Reduction.{negative}
+use Rattle.class_step.proofs.SyllableParts.{written-more}
+use Rattle.class_step.proofs.kept.push_negated.Goals as goal
+
+pub loop-k-preserved : goal.loop-k-preserved
+loop-k-preserved c =
+    written-more (λ d. negative c.args.row.now.prime (at_column c.args.row.now.entries d)) c.args.rank c.args.kept.now c.args.word.now.items
+    c.loop-k.k c.negated.result c.loop-k.word.items c.push_power.new.word.items c.loop-k-test.true c.loop-k.invariant
+    (c.negated.ensures
+    ∙ ap (λ d. negative c.args.row.now.prime (at_column c.args.row.now.entries d)) (get_or_default c.args.kept.now c.loop-k.k _ 0 c.loop-k-test.true))
+    c.in_ok-push_power.ensures

@@ -1,0 +1,15 @@
+pub mod Carried
+pub mod Kept
+pub mod NextAnswer
+pub mod NextParts
+pub mod Steps
+pub mod OverlapRows
+pub mod SpanLaws
+pub mod Fits
+pub mod FitsLaws
+pub mod AnswerLaws
+pub mod CutLaws
+pub mod Levels
+pub mod OrderLaws
+pub mod QualifyingLaws
+pub mod CanonicalLaws

@@ -1,0 +1,10 @@
+pub mod Start
+pub mod Restrictions
+pub mod ExactClass
+pub mod Bases
+pub mod Steps
+pub mod Towers
+pub mod TakenRows
+pub mod NamedLaws
+pub mod ClassSteps
+pub mod Quotients

@@ -1,0 +1,45 @@
+-- Named relators are words over the generators, and the relators of the presentation that has them alone.
+use Rattle.std.proofs.Common.{◌≡◌, ℕ, ◌-◌, ◌<◌, ℤ, List, [], ◌∷◌, get_or, length, map, refl, ap, sym, ◌∙◌, subst, arith}
+use Rattle.std.specs.List.{All, Contains}
+use Rattle.std.proofs.lemmas.List.{length-map, get_or-map}
+use Rattle.pq_base.specs.SignedWord.{HasLetters}
+use Rattle.pq_base.specs.LPresentation.{LPresentation, IsLPresentation, IsRelator, AreWords, along}
+use Rattle.pq_base.specs.LPresentation.IsRelator.{fixed_relator, iterated_relator}
+use Rattle.pq_base.proofs.LetterLaws.{HasLetters-get_or}
+use Rattle.pq_base.proofs.AlongLaws.{HasLetters-along}
+use Rattle.tower.specs.declared.relator.Relator.{Relator}
+use Rattle.tower.specs.declared.relator.Relator.TheVariants.{Fixed, Iterated}
+use Rattle.tower.specs.NamedParts.{named_word, named_part}
+
+pub named-letters : (L : LPresentation) → IsLPresentation L → (r : Relator) → HasLetters (length L.names) (named_word L r)
+named-letters L is (Fixed i) = HasLetters-get_or (length L.names) L.fixed (i - 1) is.fixed_words
+named-letters L is (Iterated i s) =
+    HasLetters-along (length L.names) L.endos s (get_or L.iterated (i - 1) []) is.endo_words
+    (HasLetters-get_or (length L.names) L.iterated (i - 1) is.iterated_words)
+
+named-words : (L : LPresentation) → IsLPresentation L → (rs : List Relator) → AreWords (length L.names) (map (named_word L) rs)
+named-words L is [] = tt
+named-words L is (r ∷ rs) = (named-letters L is r, named-words L is rs)
+
+pub named-part_is : (L : LPresentation) → IsLPresentation L → (rs : List Relator) → IsLPresentation (named_part L rs)
+named-part_is L is rs = record { distinct = is.distinct; fixed_words = named-words L is rs; iterated_words = tt; endo_words = tt }
+
+-- each named relator is one of the part
+pub named-relator : (L : LPresentation) (rs : List Relator) (r : Relator) → Contains rs r → IsRelator (named_part L rs) (named_word L r)
+named-relator L rs r c =
+    let l : c.0 < length (map (named_word L) rs) = subst (λ (n : ℕ). c.0 < n) (sym (length-map rs (named_word L))) c.1 in
+    let at : IsRelator (named_part L rs) (get_or (map (named_word L) rs) c.0 []) = fixed_relator c.0 l in
+    subst (IsRelator (named_part L rs)) (get_or-map (named_word L) rs c.0 r [] c.1 ∙ ap (named_word L) c.2) at
+
+-- and nothing else is
+pub named-all : (L : LPresentation) (rs : List Relator) (Q : List ℤ → Type 0) → All (λ (r : Relator). Q (named_word L r)) rs
+    → (w : List ℤ) → IsRelator (named_part L rs) w → Q w
+named-all L rs Q all w (fixed_relator i l) =
+    let within : i < length rs = subst (λ (n : ℕ). i < n) (length-map rs (named_word L)) l in
+    some rs within all
+  where
+    some : (ss : List Relator) → i < length ss → All (λ (r : Relator). Q (named_word L r)) ss → Q (get_or (map (named_word L) ss) i [])
+    some [] m h = absurd (omega arith)
+    some (s ∷ ss) m h =
+        subst Q (sym (get_or-map (named_word L) (s ∷ ss) i s [] m)) (h i s m)
+named-all L rs Q all w (iterated_relator s i e l) = absurd (omega arith)

@@ -8,7 +8,7 @@ use Rattle.pq_base.specs.Elementary.{zeros}
 use Rattle.fp_echelon.specs.Span.{AreRows, InSpan, EachInSpan}
 use Rattle.fp_echelon.specs.Reduced.{BasisRow, rows_of, IsPivot, IsReduced, IsRepresentative}
 use Rattle.fp_echelon.specs.Reduction.{reduce_by}
-use Rattle.fp_echelon.specs.Insertion.{inserted}
+use Rattle.fp_echelon.proofs.InsertionSteps.{inserted}
 use Rattle.fp_echelon.specs.Basis.{Echelon, IsSum, AreSums, IsBasis}
 use Rattle.fp_echelon.proofs.SpanLaws.{AreRows-push, InSpan-trans}
 use Rattle.fp_echelon.proofs.ReductionLaws.{AreRows-reduced, IsRepresentative-reduce_by}

@@ -9,7 +9,7 @@ use Rattle.fp_rows.proofs.RowLaws.{IsRow-scale_row, length-scale_row}
 use Rattle.fp_rows.proofs.EntryLaws.{get_or-scale_row}
 use Rattle.fp_echelon.specs.Reduced.{BasisRow, rows_of, ZeroAt, ZeroAtPivots, IsPivotRow, AreApart, IsReduced}
 use Rattle.fp_echelon.specs.Reduction.{negative, cleared}
-use Rattle.fp_echelon.specs.Insertion.{clear_by, clear_each, scaled}
+use Rattle.fp_echelon.proofs.InsertionSteps.{clear_by, clear_each, scaled}
 use Rattle.fp_echelon.proofs.ReductionLaws.{negative-zero, at_column-add_scaled, at_column-cleared, at_column-cleared_other, IsRow-cleared}
 
 module _ (p width : ℕ) (some : 1 < p) where

@@ -9,7 +9,7 @@ use Rattle.fp_rows.proofs.EntryLaws.{IsZeroRow-is_zeros, at_column-zeros, at_col
 use Rattle.fp_echelon.specs.Span.{AreRows, InSpan, EachInSpan}
 use Rattle.fp_echelon.specs.Reduced.{BasisRow, rows_of, IsReduced}
 use Rattle.fp_echelon.specs.Reduction.{reduce_by}
-use Rattle.fp_echelon.specs.Insertion.{inserted}
+use Rattle.fp_echelon.proofs.InsertionSteps.{inserted}
 use Rattle.fp_echelon.specs.Basis.{Echelon, IsBasis}
 use Rattle.fp_echelon.specs.Laws.{HasInverses, SpanTheSame, ReducedBasisOf}
 use Rattle.fp_echelon.proofs.SpanLaws.{InSpan-head, InSpan-trans, EachInSpan-cons, EachInSpan-trans, EachInSpan-push}

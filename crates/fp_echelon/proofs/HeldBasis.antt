@@ -8,7 +8,7 @@ use Rattle.pq_base.specs.Elementary.{zeros}
 use Rattle.fp_echelon.specs.Span.{InSpan}
 use Rattle.fp_echelon.specs.Reduced.{BasisRow, rows_of, pivots_of, IsPivotRow, IsReduced}
 use Rattle.fp_echelon.specs.Reduction.{reduce_by}
-use Rattle.fp_echelon.specs.Insertion.{inserted}
+use Rattle.fp_echelon.proofs.InsertionSteps.{inserted}
 use Rattle.fp_echelon.specs.Basis.{Echelon, IsBasis}
 use Rattle.fp_echelon.specs.Slots.{Slot, AreSlots, HasPivot, HavePivots, HoldsBasis, echelon_of, all_seen, all_added, reduced_slots, no_slot, IsJoined, IsLeft}
 use Rattle.fp_echelon.proofs.ReductionLaws.{IsRow-reduce_by, AreRows-reduced}

@@ -9,7 +9,7 @@ use Rattle.pq_base.specs.Elementary.{zeros}
 use Rattle.fp_echelon.specs.Span.{InSpan}
 use Rattle.fp_echelon.specs.Reduced.{BasisRow, rows_of, IsReduced}
 use Rattle.fp_echelon.specs.Reduction.{reduce_by}
-use Rattle.fp_echelon.specs.Insertion.{started, extended, clear_by_each, clear_each, scaled, new_row, inserted}
+use Rattle.fp_echelon.proofs.InsertionSteps.{started, extended, clear_by_each, clear_each, scaled, new_row, inserted}
 use Rattle.fp_echelon.specs.Basis.{Echelon, IsBasis}
 use Rattle.fp_echelon.specs.Slots.{Slot, IsSlot, AreSlots, HoldsBasis, echelon_of, seen, all_seen, all_added, cleared_slot, cleared_by_each, placed_slot, scaled_slot, started_slot, reduced_slots, joined_slots, no_slot, IsJoined, IsLeft}
 use Rattle.fp_echelon.proofs.SumLaws.{row-clear_by_each, reduce_by-extended}

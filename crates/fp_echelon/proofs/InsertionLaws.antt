@@ -6,13 +6,14 @@ use Rattle.fp_rows.specs.Row.{at_column, IsLastNonzero}
 use Rattle.fp_rows.proofs.RowLaws.{scale_row-scale_row, scale_row-mod, scale_row-one}
 use Rattle.fp_rows.proofs.EntryLaws.{at_column-zeros}
 use Rattle.pq_base.specs.Elementary.{zeros}
-use Rattle.fp_echelon.specs.Span.{AreRows, InSpan, EachInSpan, difference}
+use Rattle.fp_rows.specs.Differences.{difference}
+use Rattle.fp_echelon.specs.Span.{AreRows, InSpan, EachInSpan}
 use Rattle.fp_echelon.specs.Reduced.{BasisRow, rows_of, pivots_of, IsPivot, ZeroAt, ZeroAtPivots, IsPivotRow, AreApart, IsReduced, IsRepresentative}
 use Rattle.fp_echelon.specs.Reduction.{cleared, reduce_by}
-use Rattle.fp_echelon.specs.Insertion.{started, extended, clear_by, clear_by_each, clear_each, scaled, new_row, inserted}
+use Rattle.fp_echelon.proofs.InsertionSteps.{started, extended, clear_by, clear_by_each, clear_each, scaled, new_row, inserted}
 use Rattle.fp_echelon.specs.Basis.{Echelon, IsBasis}
 use Rattle.fp_echelon.proofs.SpanLaws.{IsRow-InSpan, InSpan-scale_row, InSpan-trans, EachInSpan-own, EachInSpan-trans, EachInSpan-push, AreRows-push, InSpan-last, EachInSpan-front}
-use Rattle.fp_echelon.proofs.DifferenceLaws.{InSpan-turned, InSpan-shifted}
+use Rattle.fp_echelon.proofs.SpanDifferences.{InSpan-turned, InSpan-shifted}
 use Rattle.fp_echelon.proofs.ReductionLaws.{AreRows-reduced, length-rows_of, InSpan-cleared, IsRepresentative-reduce_by, IsRow-cleared}
 use Rattle.fp_echelon.proofs.PivotLaws.{representative-zero, InSpan-from_representative}
 use Rattle.fp_echelon.proofs.SumLaws.{rows_of-extended, row-new_row, row-clear_by_each, reduce_by-extended}

@@ -1,5 +1,6 @@
+pub mod InsertionSteps
 pub mod SpanLaws
-pub mod DifferenceLaws
+pub mod SpanDifferences
 pub mod ReductionLaws
 pub mod PivotLaws
 pub mod SumLaws
@@ -22,3 +23,4 @@ pub mod SpanTheorems
 pub mod ReduceMap
 pub mod OfferedInverses
 pub mod FoundRows
+pub mod BasisSpans

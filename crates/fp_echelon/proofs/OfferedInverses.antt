@@ -1,5 +1,5 @@
 -- Modulo each prime that the engine works with, each residue but 0 has an inverse.
-use Rattle.std.proofs.Common.{◌≡◌, ℕ, zero, suc, ◌<◌, ⊎_elim, refl, sym, subst, arith}
+use Rattle.std.proofs.Common.{◌≡◌, ℕ, zero, suc, ◌<◌, inl, inr, refl, sym, subst, arith}
 use Rattle.pq_base.specs.Prime.{IsOffered}
 use Rattle.fp_echelon.specs.Laws.{HasInverses}
 
@@ -33,8 +33,8 @@ inverses_of_seven (suc (suc (suc (suc (suc (suc zero)))))) some low = (6, refl)
 inverses_of_seven (suc (suc (suc (suc (suc (suc (suc a))))))) some low = absurd (omega arith)
 
 pub HasInverses-offered : (p : ℕ) → IsOffered p → HasInverses p
-HasInverses-offered p offered =
-    ⊎_elim (λ two. subst HasInverses (sym two) inverses_of_two)
-    (λ odd. ⊎_elim (λ three. subst HasInverses (sym three) inverses_of_three)
-    (λ more. ⊎_elim (λ five. subst HasInverses (sym five) inverses_of_five)
-    (λ seven. subst HasInverses (sym seven) inverses_of_seven) more) odd) offered
+HasInverses-offered p (inl two) = subst HasInverses (sym two) inverses_of_two
+HasInverses-offered p (inr (inl three)) = subst HasInverses (sym three) inverses_of_three
+HasInverses-offered p (inr (inr (inl five))) = subst HasInverses (sym five) inverses_of_five
+HasInverses-offered p (inr (inr (inr (inl seven)))) = subst HasInverses (sym seven) inverses_of_seven
+HasInverses-offered p (inr (inr (inr (inr none)))) = absurd none

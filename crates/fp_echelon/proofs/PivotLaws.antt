@@ -8,11 +8,13 @@ use Rattle.fp_rows.specs.Rows.{IsRow, add_rows, scale_row, add_scaled}
 use Rattle.fp_rows.specs.Row.{at_column}
 use Rattle.fp_rows.proofs.RowLaws.{IsRow-zeros, IsRow-scale_row, scale_row-zero, zeros-add_rows}
 use Rattle.fp_rows.proofs.EntryLaws.{get_or-add_rows, get_or-scale_row, at_column-zeros}
-use Rattle.fp_echelon.specs.Span.{combine, AreRows, InSpan, difference}
+use Rattle.fp_rows.specs.Differences.{difference}
+use Rattle.fp_echelon.specs.Span.{combine, AreRows, InSpan}
 use Rattle.fp_echelon.specs.Reduced.{BasisRow, rows_of, ZeroAt, ZeroAtPivots, IsReduced, IsRepresentative}
 use Rattle.fp_echelon.specs.Reduction.{reduce_by}
 use Rattle.fp_echelon.proofs.SpanLaws.{IsRow-combine, InSpan-zeros}
-use Rattle.fp_echelon.proofs.DifferenceLaws.{IsRow-difference, equal_from_difference, InSpan-through, InSpan-turned, InSpan-shifted, InSpan-difference}
+use Rattle.fp_rows.proofs.DifferenceLaws.{IsRow-difference, equal_from_difference}
+use Rattle.fp_echelon.proofs.SpanDifferences.{InSpan-through, InSpan-turned, InSpan-shifted, InSpan-difference}
 use Rattle.fp_echelon.proofs.ReductionLaws.{AreRows-reduced, at_column-add_scaled, IsRepresentative-reduce_by}
 
 module _ (p width : ℕ) (some : 1 < p) where

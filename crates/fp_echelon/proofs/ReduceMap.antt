@@ -8,11 +8,12 @@ use Rattle.fp_rows.specs.Rows.{IsRow, add_rows, scale_row, add_scaled}
 use Rattle.fp_rows.specs.Row.{at_column}
 use Rattle.fp_rows.proofs.RowLaws.{IsRow-add_rows, IsRow-scale_row, add_rows_swap, scale_row-add_rows, scale_row-scale_row}
 use Rattle.fp_rows.proofs.EntryLaws.{get_or-add_rows}
-use Rattle.fp_echelon.specs.Span.{AreRows, InSpan, difference}
+use Rattle.fp_rows.specs.Differences.{difference}
+use Rattle.fp_echelon.specs.Span.{AreRows, InSpan}
 use Rattle.fp_echelon.specs.Reduced.{BasisRow, rows_of, ZeroAtPivots, IsReduced, IsRepresentative}
 use Rattle.fp_echelon.specs.Reduction.{negative, cleared, reduce_by}
 use Rattle.fp_echelon.proofs.SpanLaws.{InSpan-add_rows, InSpan-scale_row}
-use Rattle.fp_echelon.proofs.DifferenceLaws.{InSpan-self}
+use Rattle.fp_echelon.proofs.SpanDifferences.{InSpan-self}
 use Rattle.fp_echelon.proofs.ReductionLaws.{negative-zero, AreRows-reduced, at_column-add_scaled, IsRow-cleared, IsRow-reduce_by, IsRepresentative-reduce_by}
 use Rattle.fp_echelon.proofs.PivotLaws.{representative_is}
 use Rattle.fp_echelon.proofs.ClearedLaws.{ZeroAtPivots-scale_row}

@@ -7,11 +7,13 @@ use Rattle.fp_rows.specs.Rows.{IsRow, add_rows, scale_row, add_scaled}
 use Rattle.fp_rows.specs.Row.{at_column}
 use Rattle.fp_rows.proofs.RowLaws.{IsRow-zeros, IsRow-scale_row, IsRow-add_scaled, scale_row-zero, zeros-add_rows}
 use Rattle.fp_rows.proofs.EntryLaws.{get_or-add_scaled, at_column-zeros, at_column-below}
-use Rattle.fp_echelon.specs.Span.{combine, AreRows, InSpan, EachInSpan, difference}
+use Rattle.fp_rows.specs.Differences.{difference}
+use Rattle.fp_echelon.specs.Span.{combine, AreRows, InSpan, EachInSpan}
 use Rattle.fp_echelon.specs.Reduced.{BasisRow, rows_of, ZeroAt, ZeroAtPivots, IsPivotRow, AreApart, IsReduced, IsRepresentative}
 use Rattle.fp_echelon.specs.Reduction.{negative, cleared, reduce_by}
 use Rattle.fp_echelon.proofs.SpanLaws.{IsRow-combine, IsRow-InSpan, InSpan-zeros, InSpan-scale_row, InSpan-cons, InSpan-head, combine-scale_row}
-use Rattle.fp_echelon.proofs.DifferenceLaws.{IsRow-difference, add_rows-difference, equal_from_difference, InSpan-self, InSpan-through, InSpan-turned, InSpan-shifted, InSpan-difference}
+use Rattle.fp_rows.proofs.DifferenceLaws.{IsRow-difference, add_rows-difference, equal_from_difference}
+use Rattle.fp_echelon.proofs.SpanDifferences.{InSpan-self, InSpan-through, InSpan-turned, InSpan-shifted, InSpan-difference}
 
 pub at_column-add_scaled : (p k : ℕ) (xs ys : List ℕ) (c : ℕ) → 0 < p → length xs ≡ length ys
     → at_column (add_scaled p k xs ys) c ≡ (at_column xs c + k * at_column ys c) % p

@@ -7,7 +7,7 @@ use Rattle.fp_rows.specs.Rows.{scale_row, add_scaled}
 use Rattle.fp_rows.specs.Row.{at_column}
 use Rattle.fp_echelon.specs.Reduced.{BasisRow}
 use Rattle.fp_echelon.specs.Reduction.{negative}
-use Rattle.fp_echelon.specs.Insertion.{started, extended, clear_by, clear_by_each, clear_each, scaled, new_row, inserted}
+use Rattle.fp_echelon.proofs.InsertionSteps.{started, extended, clear_by, clear_by_each, clear_each, scaled, new_row, inserted}
 use Rattle.fp_echelon.specs.Slots.{Slot, IsSlot, AreSlots, HaveRoom, seen, all_seen, all_added, add_front, scale_front, plus_slot, cleared_slot, cleared_by_each, scaled_slot, placed_slot, started_slot}
 use Rattle.fp_echelon.proofs.SlotLaws.{take-add_front, take-scale_front, IsSlot-cleared_slot}
 

@@ -8,7 +8,7 @@ use Rattle.fp_rows.proofs.RowLaws.{IsRow-zeros, IsRow-scale_row, IsRow-add_scale
 use Rattle.fp_echelon.specs.Span.{combine, AreRows, InSpan, EachInSpan}
 use Rattle.fp_echelon.specs.Reduced.{BasisRow, rows_of}
 use Rattle.fp_echelon.specs.Reduction.{negative, cleared, reduce_by}
-use Rattle.fp_echelon.specs.Insertion.{started, extended, clear_by, clear_by_each, clear_each, scaled, new_row, inserted}
+use Rattle.fp_echelon.proofs.InsertionSteps.{started, extended, clear_by, clear_by_each, clear_each, scaled, new_row, inserted}
 use Rattle.fp_echelon.specs.Basis.{IsSum, AreSums}
 use Rattle.fp_echelon.proofs.SpanLaws.{IsRow-combine, combine-add_rows, combine-scale_row, combine-zeros, combine-push}
 

@@ -6,11 +6,13 @@ use Rattle.pq_base.specs.Elementary.{zeros}
 use Rattle.fp_rows.specs.Rows.{IsRow, add_rows, scale_row, add_scaled}
 use Rattle.fp_rows.specs.Row.{at_column, IsLastNonzero}
 use Rattle.fp_rows.proofs.EntryLaws.{at_column-zeros, at_column-below}
-use Rattle.fp_echelon.specs.Span.{combine, AreRows, InSpan, EachInSpan, difference}
+use Rattle.fp_rows.specs.Differences.{difference}
+use Rattle.fp_echelon.specs.Span.{combine, AreRows, InSpan, EachInSpan}
 use Rattle.fp_echelon.specs.Reduced.{BasisRow, rows_of, IsPivot, at_pivot, ZeroAt, ZeroAtPivots, IsPivotRow, AreApart, IsReduced}
 use Rattle.fp_echelon.specs.Laws.{SpanTheSame, HaveTheSameRows}
 use Rattle.fp_echelon.proofs.SpanLaws.{IsRow-combine, InSpan-head, InSpan-cons}
-use Rattle.fp_echelon.proofs.DifferenceLaws.{InSpan-difference, minus_one_cancels, equal_from_difference, IsRow-difference}
+use Rattle.fp_rows.proofs.DifferenceLaws.{minus_one_cancels, equal_from_difference, IsRow-difference}
+use Rattle.fp_echelon.proofs.SpanDifferences.{InSpan-difference}
 use Rattle.fp_echelon.proofs.ReductionLaws.{AreRows-reduced, at_column-add_scaled}
 use Rattle.fp_echelon.proofs.PlaceLaws.{at_pivot-head, at_pivot-tail}
 use Rattle.fp_echelon.proofs.PivotLaws.{at_column-combine_cons, at_column-first_pivot, combine-zero_first, zero_from_pivots}

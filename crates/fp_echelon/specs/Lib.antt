@@ -1,7 +1,6 @@
 pub mod Span
 pub mod Reduced
 pub mod Reduction
-pub mod Insertion
 pub mod Basis
 pub mod Slots
 pub mod Inserted

@@ -3,7 +3,8 @@
 use Rattle.std.specs.Prelude.{◌≡◌, ◌⊎◌, ℕ, List, [], ◌∷◌, eqb, cond, map}
 use Rattle.fp_rows.specs.Rows.{IsRow}
 use Rattle.fp_rows.specs.Row.{at_column, IsLastNonzero}
-use Rattle.fp_echelon.specs.Span.{InSpan, difference}
+use Rattle.fp_rows.specs.Differences.{difference}
+use Rattle.fp_echelon.specs.Span.{InSpan}
 
 -- a row of a basis, with its pivot's column and its coefficients over the rows that the basis was made of
 pub record BasisRow : Type 0 where

@@ -1,8 +1,8 @@
 -- Combinations and spans of rows of one width.
 -- From: vector spaces over the field of p elements.
-use Rattle.std.specs.Prelude.{◌≡◌, ◌-◌, ℕ, List, [], ◌∷◌, length}
+use Rattle.std.specs.Prelude.{◌≡◌, ℕ, List, [], ◌∷◌, length}
 use Rattle.pq_base.specs.Elementary.{zeros}
-use Rattle.fp_rows.specs.Rows.{IsRow, add_rows, scale_row, add_scaled}
+use Rattle.fp_rows.specs.Rows.{IsRow, add_rows, scale_row}
 
 -- the sum of the rows, each times its coefficient
 abbrev pub combine : ℕ → ℕ → List ℕ → List (List ℕ) → List ℕ
@@ -24,7 +24,3 @@ pub record InSpan (p width : ℕ) (rows : List (List ℕ)) (x : List ℕ) : Type
 abbrev pub EachInSpan : ℕ → ℕ → List (List ℕ) → List (List ℕ) → Type 0
 EachInSpan p width rows [] = Unit {0}
 EachInSpan p width rows (x ∷ xs) = InSpan p width rows x × EachInSpan p width rows xs
-
--- x - y
-abbrev pub difference : ℕ → List ℕ → List ℕ → List ℕ
-difference p x y = add_scaled p (p - 1) x y

@@ -8,8 +8,6 @@ mod elimination;
 mod entry;
 mod insertion;
 pub mod laws;
-#[cfg(test)]
-mod tests;
 
 pub use basis::Basis;
 pub use insertion::Insertion;

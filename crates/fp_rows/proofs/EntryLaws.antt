@@ -3,7 +3,7 @@ use Rattle.std.proofs.Common.{◌≡◌, ℕ, zero, suc, ◌+◌, ◌-◌, ◌*�
 use Rattle.std.proofs.Math.Nat.{mul-zero, add-mod-mod}
 use Rattle.pq_base.specs.Table.{AllBelow}
 use Rattle.pq_base.specs.Elementary.{zeros}
-use Rattle.pq_base.proofs.TableLaws.{get_or-below}
+use Rattle.pq_base.proofs.tables.TableLaws.{get_or-below}
 use Rattle.fp_rows.specs.Rows.{add_rows, scale_row, add_scaled}
 use Rattle.fp_rows.specs.Row.{at_column, IsZeroRow}
 use Rattle.fp_rows.proofs.RowLaws.{length-scale_row}

@@ -3,7 +3,7 @@
 use Rattle.std.proofs.Common.{◌≡◌, ℕ, suc, ◌+◌, ◌*◌, ◌%◌, ◌<◌, ◌≤◌, List, ◌++◌, length, get_or, take, drop, ap, sym, ◌∙◌, arith}
 use Rattle.std.proofs.Math.ListN.{set}
 use Rattle.pq_base.specs.Table.{AllBelow}
-use Rattle.pq_base.proofs.TableLaws.{get_or-below}
+use Rattle.pq_base.proofs.tables.TableLaws.{get_or-below}
 use Rattle.fp_rows.specs.Rows.{scale_row, add_scaled}
 use Rattle.fp_rows.proofs.RowLaws.{length-scale_row, length-add_scaled}
 use Rattle.fp_rows.proofs.EntryLaws.{get_or-add_scaled, get_or-scale_row}

@@ -4,3 +4,4 @@ pub mod BelowLaws
 pub mod PlaceByPlace
 pub mod KernelLoops
 pub mod RowStorage
+pub mod DifferenceLaws

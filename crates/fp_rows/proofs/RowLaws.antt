@@ -1,13 +1,13 @@
 -- Rows of residues of one width are a space over the residues: they add as a commutative group in which p copies of a row
 -- are zero, and scaling distributes over sums of rows and of factors. Each law holds of all lists unless it says more.
-use Rattle.std.proofs.Common.{◌≡◌, ℕ, zero, suc, ◌+◌, ◌*◌, ◌%◌, ◌<◌, List, [], ◌∷◌, length, refl, ap, ap₂, sym, ◌∙◌, arith, add_comm, add_assoc, add-zero, one-mul, mul_assoc, add-mul, mul-add, mod-eq_of_lt}
-use Rattle.std.proofs.Math.Nat.{add-mod-mod, mod-add-mod, zero-mul, mul-zero, mul-mod_right}
+use Rattle.std.proofs.Common.{◌≡◌, ℕ, zero, suc, ◌+◌, ◌-◌, ◌*◌, ◌%◌, ◌<◌, List, [], ◌∷◌, length, refl, ap, ap₂, sym, ◌∙◌, arith, add_comm, add_assoc, add-zero, one-mul, mul_assoc, add-mul, mul-add, mod-eq_of_lt}
+use Rattle.std.proofs.Math.Nat.{add-mod-mod, mod-add-mod, zero-mul, mul-zero, mul-mod_right, zero-mod, mod_self, mul-suc, mul_comm, add-mul-mod_self_right}
 use Rattle.std.proofs.lemmas.List.{length-replicate}
 use Rattle.std.proofs.lemmas.Nat.{mod_below, mul-mod_second, mul-mod_first}
 use Rattle.pq_base.specs.Table.{AllBelow}
 use Rattle.pq_base.specs.Elementary.{zeros}
 use Rattle.pq_base.proofs.ElementarySides.{zeros-below}
-use Rattle.fp_rows.specs.Rows.{IsRow, add_rows, scale_row, add_scaled}
+use Rattle.fp_rows.specs.Rows.{IsRow, add_rows, scale_row, negative_row, add_scaled}
 
 -- lengths and bounds
 pub length-add_rows : (p : ℕ) (xs ys : List ℕ) → length xs ≡ length ys → length (add_rows p xs ys) ≡ length xs
@@ -18,6 +18,10 @@ length-add_rows p (x ∷ xs) (y ∷ ys) h = ap (λ (n : ℕ). suc n) (length-add
 pub length-scale_row : (p k : ℕ) (xs : List ℕ) → length (scale_row p k xs) ≡ length xs
 length-scale_row p k [] = refl
 length-scale_row p k (x ∷ xs) = ap (λ (n : ℕ). suc n) (length-scale_row p k xs)
+
+pub length-negative_row : (p : ℕ) (xs : List ℕ) → length (negative_row p xs) ≡ length xs
+length-negative_row p [] = refl
+length-negative_row p (x ∷ xs) = ap suc (length-negative_row p xs)
 
 pub length-add_scaled : (p k : ℕ) (xs ys : List ℕ) → length xs ≡ length ys → length (add_scaled p k xs ys) ≡ length xs
 length-add_scaled p k xs ys e = length-add_rows p xs (scale_row p k ys) (e ∙ sym (length-scale_row p k ys))
@@ -30,6 +34,10 @@ add_rows-below p (x ∷ xs) (y ∷ ys) h = (mod_below (x + y) p h, add_rows-belo
 pub scale_row-below : (p k : ℕ) (xs : List ℕ) → 0 < p → AllBelow p (scale_row p k xs)
 scale_row-below p k [] h = tt
 scale_row-below p k (x ∷ xs) h = (mod_below (k * x) p h, scale_row-below p k xs h)
+
+pub negative_row-below : (p : ℕ) (xs : List ℕ) → 0 < p → AllBelow p (negative_row p xs)
+negative_row-below p [] h = tt
+negative_row-below p (x ∷ xs) h = (mod_below (p - x) p h, negative_row-below p xs h)
 
 -- sums
 pub add_rows_comm : (p : ℕ) (xs ys : List ℕ) → add_rows p xs ys ≡ add_rows p ys xs
@@ -154,3 +162,23 @@ scale_row_cancels p j k xs h e =
 pub add_scaled-zero : (p : ℕ) (xs ys : List ℕ) → 0 < p → AllBelow p xs → length ys ≡ length xs → add_scaled p 0 xs ys ≡ xs
 add_scaled-zero p xs ys h below e =
     ap (add_rows p xs) (scale_row-zero p ys h ∙ ap zeros e) ∙ add_rows-zeros p xs below
+
+-- minus a row is p - 1 times it
+pub scaled-negative : (p a : ℕ) → a < p → ((p - 1) * a) % p ≡ (p - a) % p
+scaled-negative p zero l =
+    let whole : p - 0 ≡ p = omega arith in
+    ap (λ (m : ℕ). m % p) (mul-zero (p - 1)) ∙ zero-mod p ∙ sym (mod_self p) ∙ sym (ap (λ (m : ℕ). m % p) whole)
+scaled-negative zero (suc b) l = absurd (omega arith)
+scaled-negative (suc q) (suc b) l =
+    let less : suc q - 1 ≡ q = omega arith in
+    let left : q * suc b ≡ q * b + q = mul-suc q b in
+    let right : b * suc q ≡ b * q + b = mul-suc b q in
+    let swap : b * q ≡ q * b = mul_comm b q in
+    let same : q * suc b ≡ (suc q - suc b) + b * suc q = omega arith in
+    ap (λ (m : ℕ). (m * suc b) % suc q) less
+    ∙ ap (λ (m : ℕ). m % suc q) same
+    ∙ add-mul-mod_self_right (suc q - suc b) b (suc q)
+
+pub scale_row-negative : (p : ℕ) (xs : List ℕ) → AllBelow p xs → scale_row p (p - 1) xs ≡ negative_row p xs
+scale_row-negative p [] h = refl
+scale_row-negative p (x ∷ xs) h = ap₂ (λ (n : ℕ) (l : List ℕ). n ∷ l) (scaled-negative p x h.0) (scale_row-negative p xs h.1)

@@ -1,2 +1,3 @@
 pub mod Rows
 pub mod Row
+pub mod Differences

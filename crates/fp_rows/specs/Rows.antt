@@ -1,6 +1,6 @@
 -- Rows of residues: lists of numbers below a number p, added and scaled place by place modulo p.
 -- From: vector spaces over the field of p elements.
-use Rattle.std.specs.Prelude.{◌≡◌, ◌+◌, ◌*◌, ◌%◌, ℕ, List, [], ◌∷◌, length}
+use Rattle.std.specs.Prelude.{◌≡◌, ◌+◌, ◌-◌, ◌*◌, ◌%◌, ℕ, List, [], ◌∷◌, length}
 use Rattle.pq_base.specs.Table.{AllBelow}
 
 -- a row of this width, with entries below p
@@ -18,6 +18,11 @@ add_rows p (x ∷ xs) (y ∷ ys) = ((x + y) % p) ∷ add_rows p xs ys
 abbrev pub scale_row : ℕ → ℕ → List ℕ → List ℕ
 scale_row p k [] = []
 scale_row p k (x ∷ xs) = ((k * x) % p) ∷ scale_row p k xs
+
+-- minus a row
+abbrev pub negative_row : ℕ → List ℕ → List ℕ
+negative_row p [] = []
+negative_row p (x ∷ xs) = ((p - x) % p) ∷ negative_row p xs
 
 -- a row plus k times another
 abbrev pub add_scaled : ℕ → ℕ → List ℕ → List ℕ → List ℕ

@@ -4,7 +4,5 @@
 
 pub mod kernel;
 pub mod row;
-#[cfg(test)]
-mod tests;
 
 pub use row::Row;

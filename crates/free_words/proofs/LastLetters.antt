@@ -1,7 +1,7 @@
 -- A letter off the end of one word, and its inverse put at the end of another.
 use Rattle.std.proofs.Common.{◌≡◌, ℤ, neg_ℤ, List, [], ◌∷◌, ◌++◌, ap, sym, ◌∙◌, append_assoc}
 use Rattle.pq_base.specs.SignedWord.{inv}
-use Rattle.pq_base.proofs.WordLaws.{inv-append}
+use Rattle.pq_base.proofs.words.WordLaws.{inv-append}
 
 pub append-inv_last : (out more rest before : List ℤ) (k : ℤ) → rest ≡ before ++ k ∷ [] → more ≡ out ++ neg_ℤ k ∷ [] → more ++ inv before ≡ out ++ inv rest
 append-inv_last out more rest before k split put =

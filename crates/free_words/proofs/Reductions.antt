@@ -3,9 +3,9 @@ use Rattle.std.proofs.Common.{◌≡◌, ◌≢◌, ℕ, ◌+◌, ◌<◌, ◌�
 use Rattle.std.proofs.lemmas.List.{length-append, drop_more}
 use Rattle.std.proofs.Math.IntN.{neg_ℤ-neg_ℤ}
 use Rattle.pq_base.specs.SignedWord.{IsLetter, HasLetters}
-use Rattle.pq_base.proofs.LetterLaws.{HasLetters-append, HasLetters-append_left}
+use Rattle.pq_base.proofs.words.LetterLaws.{HasLetters-append, HasLetters-append_left}
 use Rattle.free_words.specs.Letters.{AreLetters}
-use Rattle.pq_base.proofs.LetterLaws.{IsLetter-get_or}
+use Rattle.pq_base.proofs.words.LetterLaws.{IsLetter-get_or}
 use Rattle.free_words.specs.Reduced.{IsReduced, ReducesTo, TakesLetter}
 use Rattle.free_words.specs.Reduced.ReducesTo.{delete}
 

@@ -2,8 +2,8 @@
 use Rattle.std.proofs.Common.{◌≡◌, ℕ, zero, suc, ◌+◌, ◌-◌, ◌<◌, ℤ, pos, negsuc, ◌<ℤ◌, ◌≤ℤ◌, List, [], ◌∷◌, ◌++◌, get_or, take, length, unsigned_abs, ap, subst, ◌∙◌, arith}
 use Rattle.std.proofs.lemmas.Int.{ints}
 use Rattle.std.proofs.lemmas.List.{append-nil, take_more}
-use Rattle.pq_base.proofs.WordLaws.{sub-append}
-use Rattle.pq_base.proofs.LetterLaws.{HasLetters-inv}
+use Rattle.pq_base.proofs.words.WordLaws.{sub-append}
+use Rattle.pq_base.proofs.words.LetterLaws.{HasLetters-inv}
 use Rattle.free_words.proofs.Lengths.{length-inv}
 use Rattle.pq_base.specs.SignedWord.{inv, image_of, sub, IsLetter, HasLetters}
 

@@ -7,8 +7,6 @@ mod pieces;
 pub mod reduction;
 pub mod refusal;
 pub mod substitution;
-#[cfg(test)]
-mod tests;
 pub mod word;
 
 pub use operations::{commutator, conjugate, extended, extended_by, inverse, power, product};

@@ -1,6 +1,7 @@
 //! Replacing the generators of a word by words.
 
 ghost use Rattle.std.specs.Prelude.{◌≡◌, ◌++◌, ◌≤◌, ◌-◌, OnOk, length, slice_index_or, [], unsigned_abs};
+ghost use Rattle.pq_base.specs.Limits.{max_letters};
 ghost use Rattle.pq_base.specs.SignedWord.{image_of, sub, IsLetter, HasLetters};
 ghost use Rattle.free_words.specs.Letters.{AreLetters};
 ghost use Rattle.free_words.specs.Gives.{Gives};
@@ -27,7 +28,7 @@ pub fn substitute(alloc: Global, w: &Word, images: &[Word]) -> Result<Word, Word
 /// How many letters the substituted word has.
 fn substituted_len(word: &[i32], images: &[Word]) -> u64
     requires range { HasLetters (length images.now) word.now }
-    requires limit { length word.now ≤ 65536 }
+    requires limit { length word.now ≤ max_letters }
     ensures { result ≡ length (sub word.now images.now) }
 {
     let mut len = 0;

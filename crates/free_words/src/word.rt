@@ -1,6 +1,7 @@
 //! Words as values.
 
 ghost use Rattle.std.specs.Prelude.{◌≡◌, ◌<◌, ◌≤◌, ℤ, List, length, [], IfOk, MatchResult};
+ghost use Rattle.pq_base.specs.Limits.{max_letters};
 ghost use Rattle.free_words.specs.declared.refusal.WordRefusal.TheVariants.{TooLong as TooManyLetters};
 ghost use Rattle.free_words.specs.Letters.{AreLetters, IsWord};
 ghost use Rattle.free_words.specs.Gives.{Gives, GivesRoom};
@@ -44,7 +45,7 @@ impl Word {
     pub fn letters(&self) -> &[i32]
         ensures value { result.now ≡ self.now }
         ensures letters { AreLetters self.now }
-        ensures limit { length self.now ≤ 65536 }
+        ensures limit { length self.now ≤ max_letters }
     {
         self.letters.as_slice()
     }
@@ -70,7 +71,7 @@ impl Word {
     pub(crate) fn into_vec(self) -> Vec<i32>
         ensures value { result.items ≡ self }
         ensures letters { AreLetters self }
-        ensures limit { length self ≤ 65536 }
+        ensures limit { length self ≤ max_letters }
     {
         self.letters
     }
@@ -78,7 +79,7 @@ impl Word {
 
 /// Refuses a word that would have too many letters.
 pub(crate) fn check_length(letters: u64) -> Result<(), WordRefusal>
-    ensures { MatchResult result (λ _. letters ≤ 65536) (λ e. (e ≡ TooManyLetters letters) × (65536 < letters)) }
+    ensures { MatchResult result (λ _. letters ≤ max_letters) (λ e. (e ≡ TooManyLetters letters) × (max_letters < letters)) }
 {
     if letters > LETTERS as u64 {
         return Err(WordRefusal::TooLong(letters));

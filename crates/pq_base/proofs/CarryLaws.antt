@@ -9,16 +9,16 @@ use Rattle.pq_base.specs.Joined.{Joined}
 use Rattle.pq_base.specs.Series.{InSeries, HasClass}
 use Rattle.pq_base.specs.Largest.{HasValue}
 use Rattle.pq_base.specs.Laws.{ValuesCarryTheSeries, GeneratedTablesHaveTheClass, SubstitutionsCarryTheSeries}
-use Rattle.pq_base.proofs.WordLaws.{sub-append}
-use Rattle.pq_base.proofs.LetterLaws.{HasLetters-sub}
-use Rattle.pq_base.proofs.JoinedLaws.{joined-from_equal}
-use Rattle.pq_base.proofs.GroupLevels.{InLevelIn}
-use Rattle.pq_base.proofs.GroupMaps.{IsMap, level-map, level-reached}
-use Rattle.pq_base.proofs.WordGroup.{word_group, joined-sub}
-use Rattle.pq_base.proofs.TableLaws.{value-below}
-use Rattle.pq_base.proofs.TableGroup.{Element, table_group, value-append, value-joined}
+use Rattle.pq_base.proofs.words.WordLaws.{sub-append}
+use Rattle.pq_base.proofs.words.LetterLaws.{HasLetters-sub}
+use Rattle.pq_base.proofs.words.JoinedLaws.{joined-from_equal}
+use Rattle.pq_base.proofs.groups.GroupLevels.{InLevelIn}
+use Rattle.pq_base.proofs.groups.GroupMaps.{IsMap, level-map, level-reached}
+use Rattle.pq_base.proofs.words.WordGroup.{word_group, joined-sub}
+use Rattle.pq_base.proofs.tables.TableLaws.{value-below}
+use Rattle.pq_base.proofs.tables.TableGroup.{Element, table_group, value-append, value-joined}
 use Rattle.pq_base.proofs.SeriesLaws.{HasLetters-closed, level-from_series, series-from_level}
-use Rattle.pq_base.proofs.TableSeries.{IsAny, element, table_level-below, level_in_table_group, level_from_table_group}
+use Rattle.pq_base.proofs.tables.TableSeries.{IsAny, element, table_level-below, level_in_table_group, level_from_table_group}
 
 module _ (P : Presentation) (T : Table) (g : IsGroup T) (f : List ℕ) (h : AllBelow T.size f)
     (kills : (r : List ℤ) → IsRelatorOf P r → value T f r ≡ 0) where

@@ -12,9 +12,9 @@ use Rattle.pq_base.specs.Joined.{Joined, IsConsistent}
 use Rattle.pq_base.specs.Series.{NextWord, InSeries, HasClass}
 use Rattle.pq_base.specs.Series.NextWord.{no_word, then_commutator, then_power}
 use Rattle.pq_base.specs.Elementary.{zeros, elementary, ElementaryIsConsistentOfClassOne}
-use Rattle.pq_base.proofs.WordLaws.{word_from-zeros}
-use Rattle.pq_base.proofs.JoinedLaws.{joined-refl, joined-from_equal, joined-sym, joined-trans, joined-append_left, joined-append_right, joined-solve_right, commute-from_comm, commutator-joined, power-joined}
-use Rattle.pq_base.proofs.TableLaws.{get_or-below}
+use Rattle.pq_base.proofs.words.WordLaws.{word_from-zeros}
+use Rattle.pq_base.proofs.words.JoinedLaws.{joined-refl, joined-from_equal, joined-sym, joined-trans, joined-append_left, joined-append_right, joined-solve_right, commute-from_comm, commutator-joined, power-joined}
+use Rattle.pq_base.proofs.tables.TableLaws.{get_or-below}
 use Rattle.pq_base.proofs.ElementarySides.{power_word-elementary, commutator_word-elementary, zeros-below, elementary-presentation}
 use Rattle.pq_base.proofs.ExponentSums.{count_letters, exponent_sum, exponent_sum-append, exponent_sum-copies, exponent_sum-comm, exponent_sum-word_from, joined_sum, elementary-unique}
 

@@ -5,7 +5,7 @@ use Rattle.std.proofs.lemmas.List.{length-replicate, get_or-replicate}
 use Rattle.pq_base.specs.Table.{AllBelow}
 use Rattle.pq_base.specs.Presentation.{IsPresentation, IsLaterSide, word_from, power_word, commutator_word}
 use Rattle.pq_base.specs.Elementary.{zeros, zero_powers, zero_rows, elementary}
-use Rattle.pq_base.proofs.WordLaws.{word_from-zeros}
+use Rattle.pq_base.proofs.words.WordLaws.{word_from-zeros}
 
 pub zeros-below : (p n : ℕ) → 1 ≤ p → AllBelow p (zeros n)
 zeros-below p zero h = tt
@@ -44,19 +44,20 @@ row_at : (n j m : ℕ) → suc j + m ≡ n → get_or (zero_rows 0 n) j [] ≡ r
 row_at n j m e = let place : 0 + j ≡ j = omega arith in
     get_or-zero_rows 0 n j m e ∙ ap (λ (x : ℕ). replicate x (zeros m)) place
 
-pub elementary-presentation : (p n : ℕ) → 1 ≤ p → IsPresentation (elementary p n)
+pub elementary-presentation : (p n : ℕ) → 2 ≤ p → IsPresentation (elementary p n)
 elementary-presentation p n h = record {
+  prime = h;
   power_count = length-zero_powers n;
   power_sides = λ i below.
       let place : suc i + (n - suc i) ≡ n = omega arith in
-      later_side p n i (n - suc i) (get_or (zero_powers n) i []) h place (get_or-zero_powers n i (n - suc i) place);
+      later_side p n i (n - suc i) (get_or (zero_powers n) i []) (omega arith) place (get_or-zero_powers n i (n - suc i) place);
   commutator_count = length-zero_rows 0 n;
   commutator_counts = λ j below.
       let place : suc j + (n - suc j) ≡ n = omega arith in
       ap length (row_at n j (n - suc j) place) ∙ length-replicate j (zeros (n - suc j));
   commutator_sides = λ j i below earlier.
       let place : suc j + (n - suc j) ≡ n = omega arith in
-      later_side p n j (n - suc j) (get_or (get_or (zero_rows 0 n) j []) i []) h place
+      later_side p n j (n - suc j) (get_or (get_or (zero_rows 0 n) j []) i []) (omega arith) place
       (ap (λ (row : List (List ℕ)). get_or row i []) (row_at n j (n - suc j) place)
       ∙ get_or-replicate j i (zeros (n - suc j)) [] earlier);
 }

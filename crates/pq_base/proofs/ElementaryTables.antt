@@ -9,8 +9,8 @@ use Rattle.pq_base.specs.Presentation.{IsRelatorOf, letter}
 use Rattle.pq_base.specs.Presentation.IsRelatorOf.{power_relator, commutator_relator}
 use Rattle.pq_base.specs.Answer.{AreWeights, last_or_zero}
 use Rattle.pq_base.specs.Elementary.{elementary}
-use Rattle.pq_base.proofs.TableLaws.{power-below, commutator-below, value-below}
-use Rattle.pq_base.proofs.TableGroup.{value-copies, value-comm}
+use Rattle.pq_base.proofs.tables.TableLaws.{power-below, commutator-below, value-below}
+use Rattle.pq_base.proofs.tables.TableGroup.{value-copies, value-comm}
 use Rattle.pq_base.proofs.ElementarySides.{power_word-elementary, commutator_word-elementary}
 
 module _ (T : Table) (group : IsGroup T) (p : ℕ) (class : HasTableClass T p 1) where

@@ -9,8 +9,8 @@ use Rattle.pq_base.specs.Presentation.IsRelatorOf.{power_relator, commutator_rel
 use Rattle.pq_base.specs.Joined.{IsTrivial, Joined}
 use Rattle.pq_base.specs.Joined.IsTrivial.{pair, relator}
 use Rattle.pq_base.specs.Elementary.{elementary}
-use Rattle.pq_base.proofs.JoinedLaws.{joined-induction}
-use Rattle.pq_base.proofs.TableLaws.{get_or-below}
+use Rattle.pq_base.proofs.words.JoinedLaws.{joined-induction}
+use Rattle.pq_base.proofs.tables.TableLaws.{get_or-below}
 use Rattle.pq_base.proofs.ElementarySides.{power_word-elementary, commutator_word-elementary}
 
 abbrev pub counted : Bool → ℕ → ℕ

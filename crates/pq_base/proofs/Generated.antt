@@ -8,8 +8,8 @@ use Rattle.pq_base.specs.Joined.{Joined}
 use Rattle.pq_base.specs.Answer.{Answer, Definition, HasDefinition, image_words, definition_at, spelled, spellings}
 use Rattle.pq_base.specs.Answer.Definition.{image, commutator, power}
 use Rattle.pq_base.specs.ClassOne.{AnswersAreGenerated}
-use Rattle.pq_base.proofs.WordLaws.{sub-comm, sub-copies}
-use Rattle.pq_base.proofs.JoinedLaws.{joined-from_equal, joined-sym, joined-trans, joined-comm, joined-copies, power-joined, commutator-joined}
+use Rattle.pq_base.proofs.words.WordLaws.{sub-comm, sub-copies}
+use Rattle.pq_base.proofs.words.JoinedLaws.{joined-from_equal, joined-sym, joined-trans, joined-comm, joined-copies, power-joined, commutator-joined}
 
 -- each of the generators before place k is joined to its word under the images
 pub record AreSpelled (A : Answer) (k : ℕ) (words : List (List ℤ)) : Type 0 where

@@ -5,8 +5,8 @@ use Rattle.std.proofs.Math.IntN.{suc_ℤ, pred_ℤ, suc-pred, +ℤ-suc_ℤ, +ℤ
 use Rattle.pq_base.specs.SignedWord.{inv, copies, pow}
 use Rattle.pq_base.specs.Presentation.{Presentation}
 use Rattle.pq_base.specs.Joined.{Joined}
-use Rattle.pq_base.proofs.WordLaws.{append-copies}
-use Rattle.pq_base.proofs.JoinedLaws.{joined-sym, joined-trans, joined-from_equal, joined-append_left, joined-append_right, joined-solve_left, inv-append-joined}
+use Rattle.pq_base.proofs.words.WordLaws.{append-copies}
+use Rattle.pq_base.proofs.words.JoinedLaws.{joined-sym, joined-trans, joined-from_equal, joined-append_left, joined-append_right, joined-solve_left, inv-append-joined}
 
 module _ (P : Presentation) (u : List ℤ) where
   -- one factor more

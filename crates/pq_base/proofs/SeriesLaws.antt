@@ -7,11 +7,11 @@ use Rattle.pq_base.specs.Joined.{Joined}
 use Rattle.pq_base.specs.Series.{NextWord, InSeries, HasClass}
 use Rattle.pq_base.specs.Series.NextWord.{no_word, then_commutator, then_power}
 use Rattle.pq_base.specs.Laws.{LevelsAreNormal, ClassesGrow}
-use Rattle.pq_base.proofs.LetterLaws.{HasLetters-append, HasLetters-inv}
-use Rattle.pq_base.proofs.Groups.{power_in}
-use Rattle.pq_base.proofs.GroupLevels.{IsClosed, NextIn, InLevelIn, level-normal, level-same, level-commutator, level-power, level-fall, level-fall_by}
-use Rattle.pq_base.proofs.GroupLevels.NextIn.{no_factor, commutator_times, power_times}
-use Rattle.pq_base.proofs.WordGroup.{word_group}
+use Rattle.pq_base.proofs.words.LetterLaws.{HasLetters-append, HasLetters-inv}
+use Rattle.pq_base.proofs.groups.Groups.{power_in}
+use Rattle.pq_base.proofs.groups.GroupLevels.{IsClosed, NextIn, InLevelIn, level-normal, level-same, level-commutator, level-power, level-fall, level-fall_by}
+use Rattle.pq_base.proofs.groups.GroupLevels.NextIn.{no_factor, commutator_times, power_times}
+use Rattle.pq_base.proofs.words.WordGroup.{word_group}
 
 pub power_in-word_group : (P : Presentation) (u : List ℤ) (n : ℕ) → power_in (word_group P) u n ≡ copies u n
 power_in-word_group P u zero = refl

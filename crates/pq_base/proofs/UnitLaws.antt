@@ -4,7 +4,7 @@ use Rattle.std.proofs.lemmas.List.{length-replicate}
 use Rattle.pq_base.specs.Table.{AllBelow}
 use Rattle.pq_base.specs.Presentation.{letter, word_from}
 use Rattle.pq_base.specs.Canonical.{unit}
-use Rattle.pq_base.proofs.WordLaws.{word_from-zeros}
+use Rattle.pq_base.proofs.words.WordLaws.{word_from-zeros}
 use Rattle.pq_base.proofs.ElementarySides.{zeros-below}
 
 pub length-unit : (n k : ℕ) → length (unit n k) ≡ n

@@ -2,6 +2,7 @@
 -- From: the p-quotient systems of Newman and O'Brien's method. The conditions are those of the answer text, but for
 -- the limit on the rank, which no definition has.
 use Rattle.std.specs.Prelude.{◌≡◌, ◌<◌, ◌≤◌, ℕ, zero, suc, ℤ, pos, List, [], ◌∷◌, ◌++◌, get_or, length, map}
+use Rattle.pq_base.specs.Limits.{max_class, max_names}
 use Rattle.pq_base.specs.SignedWord.{copies, comm}
 use Rattle.pq_base.specs.LPresentation.{AreDistinct}
 use Rattle.pq_base.specs.Presentation.{Presentation, IsPresentation, IsNormal, letter, normal_word, power_word, commutator_word}
@@ -30,9 +31,6 @@ last_or_zero (w ∷ v ∷ ws) = last_or_zero (v ∷ ws)
 -- the class is the last weight
 abbrev pub class_of : Answer → ℕ
 class_of A = last_or_zero A.weights
-
-abbrev pub rank_of : Answer → ℕ
-rank_of A = A.presentation.rank
 
 -- the weight of the generator at place k, counted from 0
 abbrev pub weight_at : Answer → ℕ → ℕ
@@ -64,10 +62,10 @@ spellings p words (d ∷ ds) = spellings p (words ++ spelled p words d ∷ []) d
 abbrev pub spell : Answer → ℕ → List ℤ
 spell A k = get_or (spellings A.presentation.prime [] A.definitions) k []
 
--- weights are from 1 to 60 and never fall
+-- weights are from a least one to the greatest class and never fall
 abbrev pub AreWeights : ℕ → List ℕ → Type 0
 AreWeights least [] = Unit {0}
-AreWeights least (w ∷ ws) = (least ≤ w) × (w ≤ 60) × AreWeights w ws
+AreWeights least (w ∷ ws) = (least ≤ w) × (w ≤ max_class) × AreWeights w ws
 
 -- the generator at place k, counted from 0, has this definition: weight 1 and an image that is it alone, or a greater
 -- weight and a commutator or a power of generators before it whose right side is it alone
@@ -90,7 +88,7 @@ pub record IsAnswer (A : Answer) : Type 0 where
   pub weight_count : length A.weights ≡ A.presentation.rank
   pub weights : AreWeights 1 A.weights
   pub some_name : 1 ≤ length A.names
-  pub name_limit : length A.names ≤ 32
+  pub name_limit : length A.names ≤ max_names
   pub distinct : AreDistinct A.names
   pub image_count : length A.images ≡ length A.names
   pub images : AreNormal A.presentation.prime A.presentation.rank A.images

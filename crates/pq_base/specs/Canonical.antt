@@ -159,6 +159,10 @@ pub record ObeysWeights (A : Answer) : Type 0 where
   pub powers : (i m : ℕ) → i < A.presentation.rank → get_or (power_side A.presentation i) m 0 ≢ 0
       → suc (weight_at A i) ≤ weight_at A (suc i + m)
 
+-- the entries define the generators in turn, class by class
+abbrev pub TakesTurns : Answer → Type 0
+TakesTurns A = (k : ℕ) → k < class_of A → AreMet A k 0 (want_order (up_to_class A k) k)
+
 pub record IsCanonical (A : Answer) : Type 0 where
   pub weights : ObeysWeights A
-  pub turns : (k : ℕ) → k < class_of A → AreMet A k 0 (want_order (up_to_class A k) k)
+  pub turns : TakesTurns A

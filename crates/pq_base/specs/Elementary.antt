@@ -26,11 +26,11 @@ elementary p n = record {
   commutators = zero_rows 0 n;
 }
 
--- what is proved of them; the prime may be any number but 0
+-- what is proved of them, for any number above 1 as the prime
 pub record ElementaryLaws (p n : ℕ) : Type 0 where
   pub presentation : IsPresentation (elementary p n)
   pub consistent : IsConsistent (elementary p n)
   pub class : HasClass (elementary p n) 1
 
 abbrev pub ElementaryIsConsistentOfClassOne : Type 0
-ElementaryIsConsistentOfClassOne = (p n : ℕ) → 1 ≤ p → ElementaryLaws p n
+ElementaryIsConsistentOfClassOne = (p n : ℕ) → 2 ≤ p → ElementaryLaws p n

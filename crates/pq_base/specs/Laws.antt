@@ -1,13 +1,16 @@
 -- What is proved of the definitions alone. Each statement is the contract of a function of `laws`.
 -- From: the elementary theory of groups given by generators and relators.
-use Rattle.std.specs.Prelude.{◌≡◌, ◌↔◌, ◌<◌, ◌≤◌, ℕ, suc, ℤ, neg_ℤ, List, [], ◌∷◌, ◌++◌}
+use Rattle.std.specs.Prelude.{◌≡◌, ◌↔◌, ◌<◌, ◌≤◌, ◌+◌, ℕ, suc, ℤ, neg_ℤ, List, [], ◌∷◌, ◌++◌}
 use Rattle.pq_base.specs.SignedWord.{inv, copies, comm, conj, sub, HasLetters}
-use Rattle.pq_base.specs.LPresentation.{AreWords}
+use Rattle.pq_base.specs.LPresentation.{LPresentation, AreWords}
+use Rattle.pq_base.specs.Relators.{HasSameRelators}
 use Rattle.pq_base.specs.Table.{Table, IsGroup, AllBelow, InLevel, HasTableClass, value}
 use Rattle.pq_base.specs.Presentation.{Presentation, IsPresentation, IsRelatorOf}
 use Rattle.pq_base.specs.Joined.{IsTrivial, Move, Joined}
 use Rattle.pq_base.specs.Series.{InSeries, HasClass}
-use Rattle.pq_base.specs.Largest.{HasValue}
+use Rattle.pq_base.specs.Answer.{Answer, IsAnswer, class_of}
+use Rattle.pq_base.specs.Canonical.{up_to_class}
+use Rattle.pq_base.specs.Largest.{IsLargest, HasValue, HasOrder}
 
 -- joined words are an equivalence that concatenation and inverses keep, in which relators and cancelling pairs are empty
 pub record JoinedIsCongruence (P : Presentation) : Type 0 where
@@ -76,3 +79,28 @@ SubstitutionsCarryTheSeries = (P Q : Presentation) (f : List (List ℤ)) → P.p
 -- class at most c is class at most any greater number
 abbrev pub ClassesGrow : Type 0
 ClassesGrow = (P : Presentation) (c d : ℕ) → c ≤ d → HasClass P c → HasClass P d
+
+-- the commutator of words of level a and level b is in level a + b + 1
+abbrev pub CommutatorsOfLevels : Type 0
+CommutatorsOfLevels = (P : Presentation) → IsPresentation P → (a b : ℕ) (x y : List ℤ) → InSeries P a x → InSeries P b y
+    → InSeries P (a + b + 1) (comm x y)
+
+-- an answer cut to a class, and then to a smaller one
+abbrev pub RestrictionsCompose : Type 0
+RestrictionsCompose = (A : Answer) → IsAnswer A → (j k : ℕ) → j ≤ k → up_to_class (up_to_class A k) j ≡ up_to_class A j
+
+-- an answer cut to its class or a greater one
+abbrev pub RestrictionsAreWhole : Type 0
+RestrictionsAreWhole = (A : Answer) → IsAnswer A → (k : ℕ) → class_of A ≤ k → up_to_class A k ≡ A
+
+-- a presentation has at most one order in each class
+abbrev pub OrdersAreUnique : Type 0
+OrdersAreUnique = (L : LPresentation) (p k r s : ℕ) → 1 < p → HasOrder L p k r → HasOrder L p k s → r ≡ s
+
+-- presentations with the same relators have the same largest quotients, and the same orders
+pub record HaveSameQuotients (L M : LPresentation) : Type 0 where
+  pub largest : (p c : ℕ) (A : Answer) → IsLargest L p c A ↔ IsLargest M p c A
+  pub orders : (p k r : ℕ) → HasOrder L p k r ↔ HasOrder M p k r
+
+abbrev pub SameRelatorsGiveSameQuotients : Type 0
+SameRelatorsGiveSameQuotients = (L M : LPresentation) → HasSameRelators L M → HaveSameQuotients L M

@@ -1,5 +1,7 @@
+pub mod Limits
 pub mod SignedWord
 pub mod LPresentation
+pub mod Relators
 pub mod Table
 pub mod Presentation
 pub mod Joined
@@ -10,6 +12,8 @@ pub mod Canonical
 pub mod Laws
 pub mod Prime
 pub mod Name
+pub mod Lines
 pub mod Status
 pub mod Elementary
 pub mod ClassOne
+pub mod EntryWords

@@ -1,6 +1,7 @@
 -- The names of generators, as lists of bytes.
-use Rattle.std.specs.Prelude.{◌==◌, ◌≤◌, ◌&&◌, ◌||◌, nat_le, ℕ, Bool, false, IsTrue, List, [], ◌∷◌, length}
+use Rattle.std.specs.Prelude.{◌==◌, ◌≤◌, ◌&&◌, ◌||◌, nat_le, ℕ, zero, suc, Bool, false, IsTrue, List, [], ◌∷◌, get_or, length}
 use Rattle.std.specs.List.{list_all}
+use Rattle.pq_base.specs.Limits.{max_name_bytes}
 
 -- A to Z, a to z
 abbrev pub is_letter : ℕ → Bool
@@ -19,7 +20,12 @@ is_name_text (b ∷ bs) = is_letter b && list_all is_name_byte bs
 abbrev pub IsNameText : List ℕ → Type 0
 IsNameText bs = IsTrue (is_name_text bs)
 
--- such a text of at most 32 bytes
+-- name number i of a list, counted from 1
+abbrev pub name_text : List (List ℕ) → ℕ → List ℕ
+name_text names zero = []
+name_text names (suc i) = get_or names i []
+
+-- such a text that is not too long
 pub record IsName (bs : List ℕ) : Type 0 where
   pub text : IsNameText bs
-  pub count : length bs ≤ 32
+  pub count : length bs ≤ max_name_bytes

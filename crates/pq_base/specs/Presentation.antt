@@ -2,7 +2,7 @@
 -- power of a generator those after it, for a commutator those after its first generator. Lengths are exact, so one
 -- presentation is one value. Generators are counted from 1 in words, and from 0 in lists.
 -- From: M. F. Newman and E. A. O'Brien, Application of computers to questions like those of Burnside, II, 1996.
-use Rattle.std.specs.Prelude.{◌≡◌, ◌<◌, ◌+◌, ℕ, suc, ℤ, pos, List, [], ◌∷◌, ◌++◌, get_or, length}
+use Rattle.std.specs.Prelude.{◌≡◌, ◌<◌, ◌≤◌, ◌+◌, ℕ, suc, ℤ, pos, List, [], ◌∷◌, ◌++◌, get_or, length}
 use Rattle.pq_base.specs.SignedWord.{inv, copies, comm}
 use Rattle.pq_base.specs.Table.{AllBelow}
 
@@ -50,7 +50,9 @@ pub record IsLaterSide (P : Presentation) (i : ℕ) (e : List ℕ) : Type 0 wher
   pub count : suc i + length e ≡ P.rank
   pub below : AllBelow P.prime e
 
+-- that the prime is one is asked where it matters
 pub record IsPresentation (P : Presentation) : Type 0 where
+  pub prime : 2 ≤ P.prime
   pub power_count : length P.powers ≡ P.rank
   pub power_sides : (i : ℕ) → i < P.rank → IsLaterSide P i (power_side P i)
   pub commutator_count : length P.commutators ≡ P.rank

@@ -1,5 +1,5 @@
 -- The primes that the engine works with.
-use Rattle.std.specs.Prelude.{◌≡◌, ◌⊎◌, ℕ}
+use Rattle.std.specs.Prelude.{◌≡◌, ◌⊎◌, ℕ, List, [], ◌∷◌}
 use Rattle.pq_base.specs.declared.prime.Prime.{Prime}
 use Rattle.pq_base.specs.declared.prime.Prime.TheVariants.{P2, P3, P5, P7}
 
@@ -10,6 +10,15 @@ prime_value P3 = 3
 prime_value P5 = 5
 prime_value P7 = 7
 
+-- these primes
+abbrev pub offered_primes : List ℕ
+offered_primes = 2 ∷ 3 ∷ 5 ∷ 7 ∷ []
+
+-- a number that is the first of a list or one of the others
+abbrev pub IsOneOf : List ℕ → ℕ → Type 0
+IsOneOf [] n = ⊥
+IsOneOf (m ∷ ms) n = (n ≡ m) ⊎ IsOneOf ms n
+
 -- a number that is one of these primes
 abbrev pub IsOffered : ℕ → Type 0
-IsOffered n = (n ≡ 2) ⊎ ((n ≡ 3) ⊎ ((n ≡ 5) ⊎ (n ≡ 7)))
+IsOffered n = IsOneOf offered_primes n

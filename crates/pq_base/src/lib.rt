@@ -11,8 +11,6 @@ pub mod path;
 pub mod prime;
 pub mod refusal;
 pub mod status;
-#[cfg(test)]
-mod tests;
 
 pub use name::{Name, names_copied};
 pub use path::Path;

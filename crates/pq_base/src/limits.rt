@@ -1,4 +1,7 @@
-//! How large inputs and answers may be.
+//! How large inputs and answers may be. The definitions name the same limits in `specs/Limits`.
+
+ghost use Rattle.std.specs.Prelude.{◌≡◌};
+ghost use Rattle.pq_base.specs.Limits.{max_presentation_bytes, max_certificate_bytes, max_name_bytes, max_names, max_fixed, max_iterated, max_endos, max_exponent, max_letters, max_total_letters, max_open_brackets, max_class, max_rank};
 
 /// The most bytes of a presentation.
 pub const PRESENTATION_BYTES: usize = 4_194_304;
@@ -38,3 +41,20 @@ pub const CLASS: u8 = 60;
 
 /// The greatest rank of an answer.
 pub const RANK: usize = 100;
+
+/// Each constant is the limit that the definitions name.
+pub fn constants_are_the_limits()
+    ensures presentation_bytes { PRESENTATION_BYTES ≡ max_presentation_bytes }
+    ensures certificate_bytes { CERTIFICATE_BYTES ≡ max_certificate_bytes }
+    ensures name_bytes { NAME_BYTES ≡ max_name_bytes }
+    ensures generators { GENERATORS ≡ max_names }
+    ensures fixed { FIXED ≡ max_fixed }
+    ensures iterated { ITERATED ≡ max_iterated }
+    ensures endos { ENDOS ≡ max_endos }
+    ensures exponent { EXPONENT ≡ max_exponent }
+    ensures letters { LETTERS ≡ max_letters }
+    ensures total { TOTAL ≡ max_total_letters }
+    ensures brackets { BRACKETS ≡ max_open_brackets }
+    ensures class { CLASS ≡ max_class }
+    ensures rank { RANK ≡ max_rank }
+{}

@@ -2,6 +2,7 @@
 
 ghost use Rattle.std.specs.Prelude.{◌≡◌, ◌≤◌, ℕ, IfOk, IfSome, IfNone, length};
 ghost use Rattle.std.specs.List.{list_all};
+ghost use Rattle.pq_base.specs.Limits.{max_name_bytes};
 ghost use Rattle.pq_base.specs.Name.{is_letter, is_name_byte, is_name_text, IsName};
 
 use crate::limits::NAME_BYTES;
@@ -13,7 +14,7 @@ use std::marker::Model;
 /// A name: a letter, then letters, digits and `_`, at most 32 bytes in all. Contracts see it as the list of its bytes.
 #[derive(Debug, Drop, Eq, Hash, PartialEq)]
 pub struct Name {
-    bytes: ArrayVec<u8, 32>,
+    bytes: ArrayVec<u8, NAME_BYTES>,
 }
 
 impl Model for Name {
@@ -74,8 +75,8 @@ pub fn names_copied(alloc: Global, names: &[Name]) -> Result<Vec<Name>, NoMemory
     Ok(copies)
 }
 
-fn bytes_copied(bytes: &[u8]) -> ArrayVec<u8, 32>
-    requires { length bytes.now ≤ 32 }
+fn bytes_copied(bytes: &[u8]) -> ArrayVec<u8, NAME_BYTES>
+    requires { length bytes.now ≤ max_name_bytes }
     ensures { result.items ≡ bytes.now }
 {
     let mut copy = ArrayVec::new();

@@ -1,7 +1,7 @@
 -- Answers: those of small groups, what their generators spell, and values that are no answers.
 use Rattle.std.proofs.Common.{◌≡◌, ◌<◌, ℕ, zero, suc, ℤ, pos, negsuc, List, [], ◌∷◌, length, refl, ap, lit<, lit≤, arith}
 use Rattle.pq_base.specs.Presentation.{Presentation}
-use Rattle.pq_base.specs.Answer.{Answer, IsAnswer, HasDefinition, class_of, rank_of, image_words, definition_at, spell}
+use Rattle.pq_base.specs.Answer.{Answer, IsAnswer, HasDefinition, class_of, image_words, definition_at, spell}
 use Rattle.pq_base.specs.Answer.Definition.{image, commutator, power}
 use Rattle.pq_base.proofs.vectors.Tests.{unequal}
 use Rattle.pq_base.proofs.vectors.LPresentations.{x_and_y, are_x_and_y_distinct}
@@ -215,7 +215,7 @@ pub class_of_trivial : class_of trivial_answer ≡ 0
 class_of_trivial = refl
 
 -- four generators
-pub rank_of_order_sixteen : rank_of answer_of_order_sixteen ≡ 4
+pub rank_of_order_sixteen : answer_of_order_sixteen.presentation.rank ≡ 4
 rank_of_order_sixteen = refl
 
 -- the images as words

@@ -6,8 +6,8 @@ use Rattle.pq_base.specs.Table.NextElement.{no_element, times_commutator, times_
 use Rattle.pq_base.specs.Presentation.{Presentation, normal_word}
 use Rattle.pq_base.specs.Joined.{Joined}
 use Rattle.pq_base.specs.Series.{HasClass}
-use Rattle.pq_base.proofs.TableLaws.{commutator-below, power-below}
-use Rattle.pq_base.proofs.TableSeries.{table_level-below}
+use Rattle.pq_base.proofs.tables.TableLaws.{commutator-below, power-below}
+use Rattle.pq_base.proofs.tables.TableSeries.{table_level-below}
 use Rattle.pq_base.proofs.SeriesLaws.{series-letters}
 use Rattle.pq_base.proofs.CarryLaws.{level-value}
 use Rattle.pq_base.proofs.vectors.Tests.{differ, passes_below, at-below, at-both, tested_relators}

@@ -5,8 +5,8 @@ use Rattle.pq_base.specs.SignedWord.{IsLetter, HasLetters}
 use Rattle.pq_base.specs.Table.{Table, IsGroup, AllBelow, value}
 use Rattle.pq_base.specs.Presentation.{Presentation, IsNormal, normal_word}
 use Rattle.pq_base.specs.Joined.{Joined, Reaches, IsConsistent}
-use Rattle.pq_base.proofs.JoinedLaws.{joined-trans, joined-append_left, joined-from_equal}
-use Rattle.pq_base.proofs.TableGroup.{value-joined}
+use Rattle.pq_base.proofs.words.JoinedLaws.{joined-trans, joined-append_left, joined-from_equal}
+use Rattle.pq_base.proofs.tables.TableGroup.{value-joined}
 use Rattle.pq_base.proofs.vectors.Tests.{same_list, same_list-true, differ, both, passes_below, at-below, are_below, tested_below, tested_relators, are_power_values_neutral, are_commutator_values_neutral}
 use Rattle.pq_base.proofs.vectors.Rewriting.{same_letter, same_letter-true, reduce, reduce-joined, all_rules, all-rules-joined}
 

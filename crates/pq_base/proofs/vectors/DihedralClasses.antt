@@ -3,7 +3,7 @@ use Rattle.std.proofs.Common.{◌≡◌, ℕ, pos, negsuc, true, eqb, ltb, [], �
 use Rattle.pq_base.specs.Table.{HasTableClass, InLevel}
 use Rattle.pq_base.specs.Series.{InSeries, HasClass}
 use Rattle.pq_base.proofs.SeriesLaws.{series-comm, series-joined}
-use Rattle.pq_base.proofs.JoinedLaws.{commutator-joined}
+use Rattle.pq_base.proofs.words.JoinedLaws.{commutator-joined}
 use Rattle.pq_base.proofs.vectors.Tests.{unequal}
 use Rattle.pq_base.proofs.vectors.Presentations.{dihedral_of_order_eight, dihedral_of_order_sixteen}
 use Rattle.pq_base.proofs.vectors.DihedralTable.{eight_elements, eight_elements_are_group}

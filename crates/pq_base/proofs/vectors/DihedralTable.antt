@@ -9,7 +9,7 @@ use Rattle.pq_base.specs.Series.{InSeries, HasClass}
 use Rattle.pq_base.specs.Series.NextWord.{no_word, then_commutator}
 use Rattle.pq_base.specs.Answer.{Answer}
 use Rattle.pq_base.specs.Largest.{Kills}
-use Rattle.pq_base.proofs.TableGroup.{value-joined}
+use Rattle.pq_base.proofs.tables.TableGroup.{value-joined}
 use Rattle.pq_base.proofs.vectors.Tests.{unequal, tested_group, tested_relators}
 use Rattle.pq_base.proofs.vectors.LPresentations.{dihedral}
 use Rattle.pq_base.proofs.vectors.Presentations.{dihedral_of_order_eight}

@@ -6,7 +6,7 @@ use Rattle.pq_base.specs.LPresentation.{IsRelator, Obeys}
 use Rattle.pq_base.specs.LPresentation.IsRelator.{fixed_relator, iterated_relator}
 use Rattle.pq_base.specs.Table.{Table, IsGroup, HasTableClass, times, value}
 use Rattle.pq_base.specs.Largest.{IsHomomorphism, Carries, HasValue, HasOrder}
-use Rattle.pq_base.proofs.TableLaws.{get_or-below}
+use Rattle.pq_base.proofs.tables.TableLaws.{get_or-below}
 use Rattle.pq_base.proofs.vectors.Tests.{unequal, tested_class_one}
 use Rattle.pq_base.proofs.vectors.Tables.{one_element, one_element_is_group, two_elements, two_elements_are_group, two_elements_have_class_one, cycle_of_four}
 use Rattle.pq_base.proofs.vectors.LargestQuotients.{killed_generator, free_generator, killed-element, one_obeys_nothing}

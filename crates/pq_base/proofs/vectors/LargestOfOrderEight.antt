@@ -10,9 +10,9 @@ use Rattle.pq_base.specs.Presentation.IsRelatorOf.{power_relator, commutator_rel
 use Rattle.pq_base.specs.Joined.{Joined}
 use Rattle.pq_base.specs.Answer.{image_words}
 use Rattle.pq_base.specs.Largest.{Factors, FactorsOnce, IsUniversal, IsLargest}
-use Rattle.pq_base.proofs.TableLaws.{get_or-below, value-below, times-inverse, inverse-below, times-cancel_right}
-use Rattle.pq_base.proofs.TableGroup.{value-append, value-comm, value-agree, value-joined}
-use Rattle.pq_base.proofs.TableSeries.{table_level-commutator, table_level-power}
+use Rattle.pq_base.proofs.tables.TableLaws.{get_or-below, value-below, times-inverse, inverse-below, times-cancel_right}
+use Rattle.pq_base.proofs.tables.TableGroup.{value-append, value-comm, value-agree, value-joined}
+use Rattle.pq_base.proofs.tables.TableSeries.{table_level-commutator, table_level-power}
 use Rattle.pq_base.proofs.vectors.Tests.{unequal}
 use Rattle.pq_base.proofs.vectors.Rewriting.{reduce-joined, all_rules, all-rules-joined}
 use Rattle.pq_base.proofs.vectors.LPresentations.{dihedral, swapped_iterated, swapped_square_is_relator}

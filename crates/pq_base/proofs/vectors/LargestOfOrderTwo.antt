@@ -9,7 +9,7 @@ use Rattle.pq_base.specs.Presentation.IsRelatorOf.{power_relator, commutator_rel
 use Rattle.pq_base.specs.Joined.Chain.{done}
 use Rattle.pq_base.specs.Answer.{Answer, image_words}
 use Rattle.pq_base.specs.Largest.{IsGenerated, Factors, FactorsOnce, IsUniversal, IsLargest}
-use Rattle.pq_base.proofs.TableLaws.{get_or-below}
+use Rattle.pq_base.proofs.tables.TableLaws.{get_or-below}
 use Rattle.pq_base.proofs.vectors.Tests.{unequal}
 use Rattle.pq_base.proofs.vectors.Tables.{two_elements, cycle_of_four, cycle_of_four_is_group}
 use Rattle.pq_base.proofs.vectors.CycleOfFour.{cycle_of_four_has_class_two}

@@ -13,7 +13,7 @@ use Rattle.pq_base.specs.Joined.Chain.{done}
 use Rattle.pq_base.specs.Series.{InSeries, HasClass}
 use Rattle.pq_base.specs.Answer.{Answer, IsAnswer}
 use Rattle.pq_base.specs.Largest.{Kills, IsGenerated, IsUniversal, IsLargest}
-use Rattle.pq_base.proofs.TableLaws.{get_or-below}
+use Rattle.pq_base.proofs.tables.TableLaws.{get_or-below}
 use Rattle.pq_base.proofs.vectors.Tests.{unequal}
 use Rattle.pq_base.proofs.vectors.Tables.{two_elements, two_elements_are_group, two_elements_have_class_one}
 
@@ -63,6 +63,7 @@ no-relator-of r (commutator_relator j i hj hi) = omega (arith, hj)
 -- there is nothing to check
 pub trivial_is_presentation : IsPresentation trivial_presentation
 trivial_is_presentation = record {
+  prime = lit≤ tt;
   power_count = refl;
   power_sides = λ i h. absurd (omega (arith, h));
   commutator_count = refl;

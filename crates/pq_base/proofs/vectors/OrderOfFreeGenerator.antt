@@ -3,7 +3,7 @@ use Rattle.std.proofs.Common.{◌≡◌, ◌<◌, ℕ, zero, suc, pos, List, [],
 use Rattle.pq_base.specs.LPresentation.{Obeys}
 use Rattle.pq_base.specs.Table.{Table, IsGroup, HasTableClass, times}
 use Rattle.pq_base.specs.Largest.{IsHomomorphism, Carries, HasValue, HasOrder}
-use Rattle.pq_base.proofs.TableLaws.{get_or-below}
+use Rattle.pq_base.proofs.tables.TableLaws.{get_or-below}
 use Rattle.pq_base.proofs.vectors.Tables.{two_elements, two_elements_are_group, two_elements_have_class_one}
 use Rattle.pq_base.proofs.vectors.LargestQuotients.{free_generator, one_obeys_nothing}
 use Rattle.pq_base.proofs.vectors.LargestOfOrderTwo.{square-neutral}

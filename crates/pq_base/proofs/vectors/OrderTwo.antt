@@ -13,10 +13,10 @@ use Rattle.pq_base.specs.Joined.Chain.{done, step}
 use Rattle.pq_base.specs.Series.{NextWord, InSeries, HasClass}
 use Rattle.pq_base.specs.Series.NextWord.{no_word, then_commutator, then_power}
 use Rattle.pq_base.specs.Largest.{Kills, IsGenerated}
-use Rattle.pq_base.proofs.ChainLaws.{chain-trivial}
-use Rattle.pq_base.proofs.JoinedLaws.{joined-trans, joined-append_left, relator-joined, pair-joined}
-use Rattle.pq_base.proofs.TableLaws.{value-below}
-use Rattle.pq_base.proofs.TableGroup.{value-append, value-comm, value-copies, value-joined}
+use Rattle.pq_base.proofs.words.ChainLaws.{chain-trivial}
+use Rattle.pq_base.proofs.words.JoinedLaws.{joined-trans, joined-append_left, relator-joined, pair-joined}
+use Rattle.pq_base.proofs.tables.TableLaws.{value-below}
+use Rattle.pq_base.proofs.tables.TableGroup.{value-append, value-comm, value-copies, value-joined}
 use Rattle.pq_base.proofs.vectors.Tests.{unequal}
 use Rattle.pq_base.proofs.vectors.Tables.{two_elements, two_elements_are_group, two_elements_have_class_one, one_not_in_level_one}
 use Rattle.pq_base.proofs.vectors.Presentations.{order_two, relator_of_order_two}

@@ -51,6 +51,7 @@ collapsing = record {
 -- no later generator, so an empty right side
 pub order_two_is_presentation : IsPresentation order_two
 order_two_is_presentation = tested_presentation order_two (record {
+  prime = refl;
   power_count = refl;
   power_sides = refl;
   commutator_count = refl;
@@ -61,6 +62,7 @@ order_two_is_presentation = tested_presentation order_two (record {
 -- three generators
 pub dihedral_of_order_eight_is_presentation : IsPresentation dihedral_of_order_eight
 dihedral_of_order_eight_is_presentation = tested_presentation dihedral_of_order_eight (record {
+  prime = refl;
   power_count = refl;
   power_sides = refl;
   commutator_count = refl;
@@ -71,6 +73,7 @@ dihedral_of_order_eight_is_presentation = tested_presentation dihedral_of_order_
 -- four generators
 pub dihedral_of_order_sixteen_is_presentation : IsPresentation dihedral_of_order_sixteen
 dihedral_of_order_sixteen_is_presentation = tested_presentation dihedral_of_order_sixteen (record {
+  prime = refl;
   power_count = refl;
   power_sides = refl;
   commutator_count = refl;
@@ -81,6 +84,7 @@ dihedral_of_order_sixteen_is_presentation = tested_presentation dihedral_of_orde
 -- three generators with two powers
 pub quaternion_is_presentation : IsPresentation quaternion
 quaternion_is_presentation = tested_presentation quaternion (record {
+  prime = refl;
   power_count = refl;
   power_sides = refl;
   commutator_count = refl;
@@ -91,6 +95,7 @@ quaternion_is_presentation = tested_presentation quaternion (record {
 -- two generators at the prime 3
 pub cycle_of_nine_is_presentation : IsPresentation cycle_of_nine
 cycle_of_nine_is_presentation = tested_presentation cycle_of_nine (record {
+  prime = refl;
   power_count = refl;
   power_sides = refl;
   commutator_count = refl;
@@ -101,6 +106,7 @@ cycle_of_nine_is_presentation = tested_presentation cycle_of_nine (record {
 -- a presentation need not be consistent
 pub collapsing_is_presentation : IsPresentation collapsing
 collapsing_is_presentation = tested_presentation collapsing (record {
+  prime = refl;
   power_count = refl;
   power_sides = refl;
   commutator_count = refl;

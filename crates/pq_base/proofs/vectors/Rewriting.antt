@@ -5,7 +5,7 @@ use Rattle.pq_base.specs.SignedWord.{inv, copies}
 use Rattle.pq_base.specs.Presentation.{Presentation, letter, power_word, commutator_word}
 use Rattle.pq_base.specs.Joined.{Joined}
 use Rattle.pq_base.specs.Joined.Chain.{done}
-use Rattle.pq_base.proofs.JoinedLaws.{joined-trans, joined-sym, joined-from_equal, joined-append_left, joined-append_right, joined-solve_right, append-append-inv-joined, power-joined, letter-swap-joined}
+use Rattle.pq_base.proofs.words.JoinedLaws.{joined-trans, joined-sym, joined-from_equal, joined-append_left, joined-append_right, joined-solve_right, append-append-inv-joined, power-joined, letter-swap-joined}
 use Rattle.pq_base.proofs.vectors.Tests.{differ, both}
 
 pub record Rule : Type 0 where

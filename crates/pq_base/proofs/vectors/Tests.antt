@@ -1,5 +1,6 @@
 -- A test that computes settles a fact on all numbers below a bound. So a closed table or answer is judged by `refl`.
-use Rattle.std.proofs.Common.{◌≡◌, ◌<◌, ◌+◌, ℕ, zero, suc, Bool, true, false, ◌&&◌, not, T, eqb, ltb, List, [], ◌∷◌, ◌++◌, ℤ, length, get_or, refl, sym, ap, ◌∙◌, subst, inl, inr, eq-or-lt_of_le, le_of_suc-le-suc, arith, eqb-true, eq-eqb, ltb-true}
+use Rattle.std.proofs.Common.{◌≡◌, ◌<◌, ◌+◌, ℕ, zero, suc, Bool, true, false, ◌&&◌, not, T, eqb, leb, ltb, List, [], ◌∷◌, ◌++◌, ℤ, length, get_or, refl, sym, ap, ◌∙◌, subst, inl, inr, eq-or-lt_of_le, le_of_suc-le-suc, arith, eqb-true, eq-eqb, ltb-true}
+use Rattle.std.proofs.lemmas.Bool.{leb-true}
 use Rattle.pq_base.specs.SignedWord.{inv, copies, comm}
 use Rattle.pq_base.specs.Presentation.{Presentation, IsPresentation, IsLaterSide, IsRelatorOf, letter, power_side, commutator_side, power_word, commutator_word}
 use Rattle.pq_base.specs.Presentation.IsRelatorOf.{power_relator, commutator_relator}
@@ -147,6 +148,7 @@ tested_side P i e h =
 
 -- what a closed presentation has to pass
 pub record PassesPresentation (P : Presentation) : Type 0 where
+  pub prime : leb 2 P.prime ≡ true
   pub power_count : eqb (length P.powers) P.rank ≡ true
   pub power_sides : passes_below P.rank (λ i. is_later_side P i (power_side P i)) ≡ true
   pub commutator_count : eqb (length P.commutators) P.rank ≡ true
@@ -156,6 +158,7 @@ pub record PassesPresentation (P : Presentation) : Type 0 where
 -- a presentation that passes is one
 pub tested_presentation : (P : Presentation) → PassesPresentation P → IsPresentation P
 tested_presentation P h = record {
+  prime = leb-true 2 P.prime h.prime;
   power_count = eqb-true (length P.powers) P.rank h.power_count;
   power_sides = λ i hi. tested_side P i (power_side P i) (at-below P.rank (λ k. is_later_side P k (power_side P k)) h.power_sides i hi);
   commutator_count = eqb-true (length P.commutators) P.rank h.commutator_count;

@@ -1,6 +1,6 @@
 use Rattle.std.proofs.Common.{◌≡◌, append_assoc, arith}
 use Rattle.pq_base.specs.SignedWord.{comm}
-use Rattle.pq_base.proofs.LetterLaws.{HasLetters-comm}
+use Rattle.pq_base.proofs.words.LetterLaws.{HasLetters-comm}
 use Rattle.free_words.proofs.Lengths.{length-comm}
 use Rattle.free_words.proofs.operations.commutator.Goals as goal
 

@@ -1,6 +1,6 @@
 use Rattle.std.proofs.Common.{◌≡◌, append_assoc, arith}
 use Rattle.pq_base.specs.SignedWord.{conj}
-use Rattle.pq_base.proofs.LetterLaws.{HasLetters-conj}
+use Rattle.pq_base.proofs.words.LetterLaws.{HasLetters-conj}
 use Rattle.free_words.proofs.Lengths.{length-conj}
 use Rattle.free_words.proofs.operations.conjugate.Goals as goal
 

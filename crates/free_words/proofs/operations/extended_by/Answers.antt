@@ -1,7 +1,7 @@
 use Rattle.std.proofs.Common.{◌≡◌, ◌++◌, [], ◌∷◌, refl, arith, w32}
 use Rattle.std.proofs.lemmas.Int.{to_z-of_z}
 use Rattle.std.proofs.lemmas.List.{length-append}
-use Rattle.pq_base.proofs.LetterLaws.{HasLetters-append}
+use Rattle.pq_base.proofs.words.LetterLaws.{HasLetters-append}
 use Rattle.free_words.proofs.operations.extended_by.Goals as goal
 
 pub from_vec-requires : goal.from_vec-requires

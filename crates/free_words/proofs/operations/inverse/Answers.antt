@@ -1,6 +1,6 @@
 use Rattle.std.proofs.Common.{◌≡◌, refl}
 use Rattle.pq_base.specs.SignedWord.{inv}
-use Rattle.pq_base.proofs.LetterLaws.{HasLetters-inv}
+use Rattle.pq_base.proofs.words.LetterLaws.{HasLetters-inv}
 use Rattle.free_words.proofs.Lengths.{length-inv}
 use Rattle.free_words.proofs.operations.inverse.Goals as goal
 

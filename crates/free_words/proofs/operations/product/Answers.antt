@@ -1,6 +1,6 @@
 use Rattle.std.proofs.Common.{◌≡◌, ◌++◌, refl, arith}
 use Rattle.std.proofs.lemmas.List.{length-append}
-use Rattle.pq_base.proofs.LetterLaws.{HasLetters-append}
+use Rattle.pq_base.proofs.words.LetterLaws.{HasLetters-append}
 use Rattle.free_words.proofs.operations.product.Goals as goal
 
 pub from_vec-requires : goal.from_vec-requires

@@ -1,6 +1,6 @@
 use Rattle.std.proofs.Common.{◌≡◌, ℤ, neg_ℤ, [], ◌∷◌, ◌++◌, FitsSigned, w32, ap, ◌∙◌, rules}
 use Rattle.std.proofs.lemmas.Int.{to_z-of_z}
-use Rattle.pq_base.proofs.LetterLaws.{HasLetters-append_left, HasLetters-append_right}
+use Rattle.pq_base.proofs.words.LetterLaws.{HasLetters-append_left, HasLetters-append_right}
 use Rattle.free_words.specs.Letters.{AreLetters}
 use Rattle.free_words.proofs.LastLetters.{append-inv_last}
 use Rattle.free_words.proofs.pieces.push_inverse.Goals as goal

@@ -3,7 +3,7 @@ use Rattle.std.proofs.lemmas.Int.{to_z-of_z}
 use Rattle.free_words.specs.Letters.{IsWord}
 use Rattle.free_words.specs.Reduced.{TakesLetter}
 use Rattle.free_words.specs.Reduced.ReducesTo.{same}
-use Rattle.pq_base.proofs.LetterLaws.{IsLetter-get_or}
+use Rattle.pq_base.proofs.words.LetterLaws.{IsLetter-get_or}
 use Rattle.free_words.proofs.Reductions.{IsReducing-takes}
 use Rattle.free_words.proofs.reduction.reduce_free.Goals as goal
 

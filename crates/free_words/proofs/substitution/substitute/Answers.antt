@@ -2,8 +2,8 @@ use Rattle.std.proofs.Common.{◌≡◌, ◌++◌, ◌<◌, List, ℤ, pos, get_
 use Rattle.std.proofs.lemmas.Int.{to_z-of_z}
 use Rattle.std.proofs.lemmas.List.{take_all}
 use Rattle.pq_base.specs.SignedWord.{sub, image_of}
-use Rattle.pq_base.proofs.LetterLaws.{HasLetters-append}
-use Rattle.pq_base.proofs.LetterLaws.{IsLetter-get_or}
+use Rattle.pq_base.proofs.words.LetterLaws.{HasLetters-append}
+use Rattle.pq_base.proofs.words.LetterLaws.{IsLetter-get_or}
 use Rattle.free_words.proofs.Substitutions.{sub-take_more}
 use Rattle.free_words.proofs.substitution.substitute.Goals as goal
 

@@ -1,8 +1,9 @@
 use Rattle.std.proofs.Common.{◌≡◌, ◌≤◌, ◌-◌, pos, [], get_or, take, length, unsigned_abs, FitsSigned, w32, ap, ◌∙◌, sym, rules, arith}
 use Rattle.std.proofs.lemmas.Int.{to_z-of_z}
 use Rattle.std.proofs.lemmas.List.{length-append}
+use Rattle.pq_base.specs.Limits.{max_letters}
 use Rattle.pq_base.specs.SignedWord.{sub, image_of, IsLetter}
-use Rattle.pq_base.proofs.LetterLaws.{IsLetter-get_or}
+use Rattle.pq_base.proofs.words.LetterLaws.{IsLetter-get_or}
 use Rattle.free_words.proofs.Substitutions.{sub-take_more, length-image_of}
 use Rattle.free_words.proofs.substitution.substituted_len.Goals as goal
 
@@ -23,5 +24,5 @@ loop-k-preserved c =
     ap length (c.letters.ensures.value ∙ r) ∙ sym (length-image_of c.args.images.now (length c.args.images.now) (get_or c.args.word.now c.loop-k.k-index (pos 0)) i) in
     let s = ap length (sub-take_more c.args.word.now c.args.images.now c.loop-k.k-index c.loop-k-test.true) in
     let a = length-append (sub (take c.loop-k.k-index c.args.word.now) c.args.images.now) (image_of c.args.images.now (get_or c.args.word.now c.loop-k.k-index (pos 0))) in
-    let b : length c.letters.result.now ≤ 65536 = rw (← c.letters.ensures.value) at c.letters.ensures.limit in
+    let b : length c.letters.result.now ≤ max_letters = rw (← c.letters.ensures.value) at c.letters.ensures.limit in
     (omega (arith, c.loop-k.invariant.0), omega arith)

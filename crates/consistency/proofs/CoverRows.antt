@@ -3,7 +3,6 @@
 use Rattle.std.proofs.Common.{◌≡◌, ◌↔◌, ℕ, ◌-◌, ◌<◌, Bool, true, false, IsTrue, IsFalse, [], length, refl, ap, sym, ◌∙◌, subst, arith}
 use Rattle.pq_base.specs.Joined.{Joined, IsConsistent}
 use Rattle.pq_base.specs.Presentation.{word_from}
-use Rattle.fp_rows.proofs.RowLaws.{length-add_scaled}
 use Rattle.pc_presentation.specs.declared.overlap.Overlap.{Overlap}
 use Rattle.pc_presentation.specs.OverlapNumbers.{AreOverlapNumbers, overlap_of}
 use Rattle.pc_presentation.specs.Pcp.{TailedPresentation, IsTailedPresentation}
@@ -12,34 +11,28 @@ use Rattle.pc_presentation.specs.Collection.{State}
 use Rattle.pc_presentation.specs.Arithmetic.{IsMeaning}
 use Rattle.pc_presentation.specs.Overlaps.{Overlap as OverlapOfPlaces}
 use Rattle.pc_presentation.specs.Tailed.{Element, rowed_presentation}
-use Rattle.pc_presentation.proofs.PcpLaws.{offered-two}
-use Rattle.pc_presentation.proofs.TailedLaws.{rowed_presentation-is}
-use Rattle.pc_presentation.proofs.OverlapNumberLaws.{overlap_of-is}
-use Rattle.pc_presentation.proofs.ConsistentOverlaps.{ways-over_base}
-use Rattle.consistency.specs.OverlapRows.{left_end, right_end, ExponentsAgree, overlap_row}
-use Rattle.consistency.proofs.TrivialRows.{left_end-state, right_end-state, overlap_row-trivial}
+use Rattle.pc_presentation.proofs.quotients.TailedLaws.{rowed_presentation-is}
+use Rattle.pc_presentation.proofs.consistent.OverlapNumberLaws.{overlap_of-is}
+use Rattle.pc_presentation.specs.OverlapRows.{ExponentsAgree, overlap_row}
+use Rattle.pc_presentation.proofs.consistent.OverlapRows.{overlap_row-row, overlap_row-trivial, ends-agree}
+use Rattle.consistency.specs.ConsistencyLaws.{OverlapRowsAreTrivial}
 
 module _ (T : TailedPresentation) (is : IsTailedPresentation T) (push : State → ℕ → State)
-    (reaches : IsRowed (rowed_presentation T) → 0 < T.presentation.prime → IsMeaning (rowed_presentation T) push)
+    (reaches : IsRowed (rowed_presentation T) → IsMeaning (rowed_presentation T) push)
     (o : Overlap) (numbers : AreOverlapNumbers T.presentation.rank o) where
   big : 1 < T.presentation.prime
-  big = let two = offered-two T.presentation.prime is.prime in omega arith
+  big = is.presentation.prime
 
   meaning : IsMeaning (rowed_presentation T) push
-  meaning = let l = big in reaches (rowed_presentation-is T is) (omega arith)
+  meaning = reaches (rowed_presentation-is T is)
 
   pub exponents-agree : IsConsistent T.presentation → ExponentsAgree (rowed_presentation T) push (overlap_of o)
   exponents-agree consistent =
-      (ways-over_base (rowed_presentation T) (rowed_presentation-is T is) big push meaning consistent (overlap_of o)
-      (overlap_of-is T.presentation.rank o numbers)).exponents
+      ends-agree (rowed_presentation T) (rowed_presentation-is T is) big push meaning (overlap_of o) (overlap_of-is T.presentation.rank o numbers) consistent
 
   pub overlap_row-length : length (overlap_row (rowed_presentation T) push (overlap_of o)) ≡ T.tails
   overlap_row-length =
-      let Y = rowed_presentation T in
-      let is_overlap = overlap_of-is T.presentation.rank o numbers in
-      let l = (left_end-state (rowed_presentation T) (rowed_presentation-is T is) big push meaning (overlap_of o) is_overlap).row in
-      let r = (right_end-state (rowed_presentation T) (rowed_presentation-is T is) big push meaning (overlap_of o) is_overlap).row in
-      length-add_scaled T.presentation.prime (T.presentation.prime - 1) (left_end Y push (overlap_of o)).row (right_end Y push (overlap_of o)).row (l.count ∙ sym r.count) ∙ l.count
+      (overlap_row-row (rowed_presentation T) (rowed_presentation-is T is) big push meaning (overlap_of o) (overlap_of-is T.presentation.rank o numbers)).count
 
   pub cover_row-trivial : ExponentsAgree (rowed_presentation T) push (overlap_of o)
       → Joined (flat (rowed_presentation T)) (word_from T.presentation.rank (overlap_row (rowed_presentation T) push (overlap_of o))) []
@@ -63,3 +56,6 @@ either_way false P h i = i refl
 pub same_exponents : (b : Bool) (l l' r r' : State) → l ≡ l' → r ≡ r' → (IsTrue b ↔ (l.exponents ≡ r.exponents)) → (IsTrue b ↔ (l'.exponents ≡ r'.exponents))
 same_exponents b l l' r r' e f h =
     subst (λ (s : State). IsTrue b ↔ (s.exponents ≡ r'.exponents)) e (subst (λ (s : State). IsTrue b ↔ (l.exponents ≡ s.exponents)) f h)
+
+pub overlap_rows_are_trivial : OverlapRowsAreTrivial
+overlap_rows_are_trivial Y rowed push meaning o h same = overlap_row-trivial Y rowed rowed.base.prime push meaning o h same

@@ -7,7 +7,7 @@ use Rattle.pc_presentation.specs.declared.overlap.Overlap.TheVariants.{Triple, L
 use Rattle.pc_presentation.specs.OverlapNumbers.{AreOverlapNumbers}
 use Rattle.consistency.specs.AllOverlaps.{with_smaller, pairs, triples_with, triples, owns, all_overlaps}
 use Rattle.consistency.specs.ConsistencyLaws.{EachOverlapOnce}
-use Rattle.consistency.proofs.ListMembers.{In, Apart, In-append_left, In-append_right, In-append_cases, In-map, In-map_cases, In-flat_map, In-flat_map_cases, In-numbers, numbers-range, Contains-from_In, In-from_Contains, Apart-append, Apart-map, Apart-flat_map, Apart-numbers, Apart-places}
+use Rattle.pq_base.proofs.ListMembers.{In, Apart, In-append_left, In-append_right, In-append_cases, In-map, In-map_cases, In-flat_map, In-flat_map_cases, In-numbers, numbers-range, Contains-from_In, In-from_Contains, Apart-append, Apart-map, Apart-flat_map, Apart-numbers, Apart-places}
 
 -- what tells overlaps apart: the kind, and the numbers
 abbrev kind_of : Overlap → ℕ

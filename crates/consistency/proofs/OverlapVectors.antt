@@ -10,7 +10,8 @@ use Rattle.pc_presentation.specs.OverlapNumbers.{overlap_of}
 use Rattle.pc_presentation.specs.Tailed.{rowed_presentation}
 use Rattle.p_cover.specs.Covers.{all_sources, cover_presentation}
 use Rattle.consistency.specs.AllOverlaps.{all_overlaps}
-use Rattle.consistency.specs.OverlapRows.{left_end, right_end, ExponentsAgree, row_difference, overlap_row}
+use Rattle.fp_rows.specs.Differences.{difference}
+use Rattle.pc_presentation.specs.OverlapRows.{left_end, right_end, ExponentsAgree, overlap_row}
 
 none_of_no_generator : all_overlaps 0 ≡ []
 none_of_no_generator = refl
@@ -45,7 +46,7 @@ unfolding plain_push_from
 exponents_of_left = refl
 
 -- the row is the left one minus the right one
-one_minus_two_modulo_three : row_difference 3 (1 ∷ 0 ∷ []) (2 ∷ 1 ∷ []) ≡ 2 ∷ 2 ∷ []
+one_minus_two_modulo_three : difference 3 (1 ∷ 0 ∷ []) (2 ∷ 1 ∷ []) ≡ 2 ∷ 2 ∷ []
 one_minus_two_modulo_three = refl
 
 -- a1 squared is a2 and [a2,a1] is a3: the cube of a1 has two values

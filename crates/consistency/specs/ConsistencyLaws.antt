@@ -12,7 +12,7 @@ use Rattle.pc_presentation.specs.Collection.{State}
 use Rattle.pc_presentation.specs.Overlaps.{Overlap as OverlapOfPlaces, IsOverlap}
 use Rattle.pc_presentation.specs.Arithmetic.{IsMeaning}
 use Rattle.consistency.specs.AllOverlaps.{all_overlaps}
-use Rattle.consistency.specs.OverlapRows.{ExponentsAgree, overlap_row}
+use Rattle.pc_presentation.specs.OverlapRows.{ExponentsAgree, overlap_row}
 
 -- the list has the overlaps of n generators and no other, and none at two places
 pub record HasEachOverlapOnce (n : ℕ) : Type 0 where
@@ -25,6 +25,6 @@ EachOverlapOnce = (n : ℕ) → HasEachOverlapOnce n
 -- where both ways reach the same exponents, the row of an overlap is a trivial word of the tails; the presentation need not
 -- be consistent
 abbrev pub OverlapRowsAreTrivial : Type 0
-OverlapRowsAreTrivial = (Y : RowedPresentation) → IsRowed Y → 1 < Y.base.prime → (push : State → ℕ → State) → IsMeaning Y push
+OverlapRowsAreTrivial = (Y : RowedPresentation) → IsRowed Y → (push : State → ℕ → State) → IsMeaning Y push
     → (o : OverlapOfPlaces) → IsOverlap Y.base.rank o → ExponentsAgree Y push o
     → Joined (flat Y) (word_from Y.base.rank (overlap_row Y push o)) []

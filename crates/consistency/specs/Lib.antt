@@ -1,4 +1,3 @@
 pub mod AllOverlaps
 pub mod OverlapsLeft
-pub mod OverlapRows
 pub mod ConsistencyLaws

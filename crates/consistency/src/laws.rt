@@ -9,7 +9,7 @@ pub fn each_overlap_once()
 
 /// In every presentation with rows, over every collector, where both ways of an overlap reach the same exponents, the word of
 /// the difference of their rows is joined to the empty word.
-#[tactic(auto, using(crate::proofs::TrivialRows::overlap_rows_are_trivial))]
+#[tactic(auto, using(crate::proofs::CoverRows::overlap_rows_are_trivial))]
 pub fn overlap_rows_are_trivial()
     ensures { OverlapRowsAreTrivial }
 {}

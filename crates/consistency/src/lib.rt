@@ -7,8 +7,6 @@ pub mod all_overlaps;
 pub mod laws;
 mod next_overlap;
 pub mod overlap_rows;
-#[cfg(test)]
-mod worked_rows;
 
 pub use all_overlaps::Tests;
 pub use overlap_rows::row;

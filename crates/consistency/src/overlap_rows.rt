@@ -9,7 +9,8 @@ ghost use Rattle.pc_presentation.specs.OverlapNumbers.{AreOverlapNumbers, overla
 ghost use Rattle.pc_presentation.specs.Scratch.{IsScratch};
 ghost use Rattle.pc_presentation.specs.Tailed.{rowed_presentation};
 ghost use Rattle.p_cover.specs.Covers.{cover_presentation};
-ghost use Rattle.consistency.specs.OverlapRows.{ExponentsAgree, row_difference, overlap_row};
+ghost use Rattle.fp_rows.specs.Differences.{difference};
+ghost use Rattle.pc_presentation.specs.OverlapRows.{ExponentsAgree, overlap_row};
 
 use fp_rows::Row;
 use p_cover::Cover;
@@ -51,7 +52,7 @@ fn subtract_if_alike(row: &mut Row, left: &Elem, right: &Elem) -> bool
     requires right_prime { right.now.prime ≡ row.old.prime }
     requires right_width { length right.now.state.row ≡ length row.old.entries }
     ensures alike { IsTrue result ↔ left.now.state.exponents ≡ right.now.state.exponents }
-    ensures difference { IsTrue result → row.new ≡ record row.old { entries = row_difference row.old.prime left.now.state.row right.now.state.row } }
+    ensures difference { IsTrue result → row.new ≡ record row.old { entries = difference row.old.prime left.now.state.row right.now.state.row } }
     ensures zero { IsFalse result → row.new ≡ record row.old { entries = zeros (length row.old.entries) } }
 {
     if left.exponents() != right.exponents() {

@@ -1,5 +1,2 @@
-pub mod WordValues
-pub mod BaseValues
-pub mod LiftedImages
 pub mod RelatorRows
-pub mod RelatorVectors
+mod RelatorVectors

@@ -9,7 +9,7 @@ use Rattle.pc_presentation.specs.Collection.{State, plain_push, plain_push_from}
 use Rattle.pc_presentation.specs.Tailed.{rowed_presentation}
 use Rattle.p_cover.specs.Covers.{CoverOf, all_sources, cover_presentation}
 use Rattle.p_cover.specs.Images.{ImagesOf, lifted_images}
-use Rattle.epimorphism.specs.RelatorRows.{value_under}
+use Rattle.p_cover.specs.ImageValues.{value_under}
 
 abbrev plain_value : CoverOf → ImagesOf → List ℤ → State
 plain_value C f w = value_under C (plain_push (rowed_presentation (cover_presentation C))) f w

@@ -1,5 +1,5 @@
--- The values of words over the given generators in a cover. Where such a value has no exponent, the word has a row: the
--- tails of its value.
+-- What is proved of the rows of relators. Where the value of a word in a cover has no exponent, the word has a row: the tails
+-- of its value. Each statement is the contract of a function of `laws`.
 -- From: the p-covering groups of Newman and O'Brien's method, in which the relators are enforced by linear algebra.
 use Rattle.std.specs.Prelude.{◌≡◌, ◌↔◌, ℕ, ℤ, List, [], length}
 use Rattle.pq_base.specs.SignedWord.{sub, HasLetters}
@@ -7,20 +7,13 @@ use Rattle.pq_base.specs.Joined.{Joined, IsConsistent}
 use Rattle.pq_base.specs.Answer.{image_words}
 use Rattle.pq_base.specs.Elementary.{zeros}
 use Rattle.pc_presentation.specs.Rowed.{flat}
-use Rattle.pc_presentation.specs.Collection.{State, identity}
-use Rattle.pc_presentation.specs.Arithmetic.{IsMeaning, evaluate_from}
+use Rattle.pc_presentation.specs.Collection.{State}
+use Rattle.pc_presentation.specs.Arithmetic.{IsMeaning}
 use Rattle.pc_presentation.specs.Tailed.{rowed_presentation}
-use Rattle.pc_presentation.specs.ImageElements.{states_of}
 use Rattle.p_cover.specs.RowedAnswer.{tails_word}
 use Rattle.p_cover.specs.Covers.{CoverOf, IsCover, cover_presentation, rowed_cover}
 use Rattle.p_cover.specs.Images.{ImagesOf, AreLifted}
-
--- the value of a word in a cover, by a collector's pushes, under images with their inverses
-abbrev pub value_under : CoverOf → (State → ℕ → State) → ImagesOf → List ℤ → State
-value_under C push f w = let Y = rowed_presentation (cover_presentation C) in
-    evaluate_from Y push (states_of f.elements) (states_of f.inverses) (identity Y Y.base.rank) w
-
--- What is proved. Each statement is the contract of a function of `laws`.
+use Rattle.p_cover.specs.ImageValues.{value_under}
 
 -- over a consistent answer a word has a row exactly where the answer kills it
 abbrev pub KilledRelatorsHaveRows : Type 0

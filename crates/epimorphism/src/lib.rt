@@ -6,7 +6,5 @@
 
 pub mod laws;
 pub mod relator;
-#[cfg(test)]
-mod tests;
 
 pub use relator::relator_row;

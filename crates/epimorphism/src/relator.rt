@@ -11,7 +11,7 @@ ghost use Rattle.pc_presentation.specs.Scratch.{IsScratch};
 ghost use Rattle.p_cover.specs.RowedAnswer.{rowed_images, tails_word};
 ghost use Rattle.p_cover.specs.Covers.{cover_presentation, rowed_cover};
 ghost use Rattle.p_cover.specs.Images.{AreLifted};
-ghost use Rattle.epimorphism.specs.RelatorRows.{value_under};
+ghost use Rattle.p_cover.specs.ImageValues.{value_under};
 
 use fp_rows::Row;
 use free_words::Word;

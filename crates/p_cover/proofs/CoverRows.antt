@@ -12,14 +12,14 @@ use Rattle.pc_presentation.specs.declared.relation.Relation.TheVariants.{Power a
 use Rattle.pc_presentation.specs.Relation.{IsRelation, PerRelation, tabulate, per_relation, entry_at}
 use Rattle.pc_presentation.specs.Pcp.{HasShape, row_of, tail_rows}
 use Rattle.pc_presentation.specs.Rowed.{IsRowed}
-use Rattle.pc_presentation.proofs.RelationTables.{tabulate_agree, entry_at-per_relation, per_relation-shape}
-use Rattle.pc_presentation.proofs.PcpLaws.{one_less}
-use Rattle.pc_presentation.proofs.TailRowLaws.{row_of-normal}
+use Rattle.pc_presentation.proofs.presentations.RelationTables.{tabulate_agree, entry_at-per_relation, per_relation-shape}
+use Rattle.pc_presentation.proofs.presentations.PcpLaws.{one_less}
+use Rattle.pc_presentation.proofs.rows.TailRowLaws.{row_of-normal}
 use Rattle.p_cover.specs.RowedAnswer.{IsRowedAnswer, rowed, row_at}
 use Rattle.p_cover.specs.Sources.{relation_source, place_in, IsPartOf}
 use Rattle.p_cover.specs.Covers.{covering, cover_on, all_sources}
 use Rattle.p_cover.specs.CoverLaws.{IsSource, CoversAreRowedAnswers}
-use Rattle.p_cover.proofs.NumberLists.{length-numbers_from, get_or-map_numbers}
+use Rattle.pq_base.proofs.NumberLists.{length-numbers_from, get_or-map_numbers}
 use Rattle.p_cover.proofs.PlaceLaws.{place_in-outside}
 use Rattle.p_cover.proofs.WantMembers.{part-undefined}
 
@@ -152,4 +152,4 @@ module _ (A : Answer) (ds : List Source) where
       }
 
 pub covers_are_rowed_answers : CoversAreRowedAnswers
-covers_are_rowed_answers A ds is two part = (cover_on-is A ds is two part, refl)
+covers_are_rowed_answers A ds is part = (cover_on-is A ds is is.presentation.prime part, refl)

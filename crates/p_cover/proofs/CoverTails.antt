@@ -8,12 +8,12 @@ use Rattle.pc_presentation.specs.declared.relation.Relation.{Relation}
 use Rattle.pc_presentation.specs.declared.relation.Relation.TheVariants.{Power as PowerOf, Commutator as CommutatorOf}
 use Rattle.pc_presentation.specs.Relation.{IsRelation}
 use Rattle.pc_presentation.specs.Pcp.{tail_of}
-use Rattle.pc_presentation.proofs.RelationTables.{entry_at-per_relation}
+use Rattle.pc_presentation.proofs.presentations.RelationTables.{entry_at-per_relation}
 use Rattle.p_cover.specs.Sources.{relation_source, place_in, IsPartOf}
 use Rattle.p_cover.specs.Covers.{covering, all_sources}
 use Rattle.p_cover.specs.ImageTails.{tails_of_images}
 use Rattle.p_cover.specs.CoverLaws.{IsSource}
-use Rattle.p_cover.proofs.NumberLists.{length-numbers_from, get_or-map_numbers}
+use Rattle.pq_base.proofs.NumberLists.{length-numbers_from, get_or-map_numbers}
 use Rattle.p_cover.proofs.PlaceLaws.{place_in-outside}
 use Rattle.p_cover.proofs.WantMembers.{part-sources}
 

@@ -64,7 +64,7 @@ lifted_images_of_cycle = refl
 pub cover_of_order_eight : IsRowedAnswer (cover_on answer_of_order_eight (all_sources answer_of_order_eight))
 cover_of_order_eight =
     let part : IsPartOf (all_sources answer_of_order_eight) (all_sources answer_of_order_eight) = part_of_itself (all_sources answer_of_order_eight) in
-    (covers_are_rowed_answers answer_of_order_eight (all_sources answer_of_order_eight) order_eight_is_answer (omega arith) part).0
+    (covers_are_rowed_answers answer_of_order_eight (all_sources answer_of_order_eight) order_eight_is_answer part).0
 
 -- with a tail for what defines a3 it would be none
 pub definition_without_tail : ¬ IsRowedAnswer (cover_on answer_of_order_eight (commutator 2 1 ∷ []))

@@ -7,23 +7,18 @@ use Rattle.pq_base.specs.Presentation.{IsNormal, letter, normal_word, power_word
 use Rattle.pq_base.specs.Joined.{Joined}
 use Rattle.pq_base.specs.Answer.{Definition, AreNormal, image_words}
 use Rattle.pq_base.specs.Answer.Definition.{image, commutator, power}
-use Rattle.pq_base.proofs.WordLaws.{sub-append, sub-inv, sub-sub, sub-letter}
-use Rattle.pq_base.proofs.LetterLaws.{HasLetters-letter, HasLetters-copies, HasLetters-comm, HasLetters-normal_word, HasLetters-power_word, HasLetters-commutator_word}
-use Rattle.pq_base.proofs.JoinedLaws.{joined-from_equal, joined-sym, joined-trans, joined-append, joined-inv, inv-append-append-joined}
-use Rattle.pq_base.proofs.RangeLaws.{generators, get_or-generators, sub-generators}
-use Rattle.pq_base.proofs.WordGroup.{joined-sub_same}
+use Rattle.pq_base.proofs.words.WordLaws.{sub-append, sub-inv, sub-sub, sub-letter}
+use Rattle.pq_base.proofs.words.LetterLaws.{HasLetters-letter, HasLetters-copies, HasLetters-comm, HasLetters-normal_word, HasLetters-power_word, HasLetters-commutator_word}
+use Rattle.pq_base.proofs.words.JoinedLaws.{joined-from_equal, joined-sym, joined-trans, joined-append, joined-inv, inv-append-append-joined}
+use Rattle.pq_base.proofs.words.RangeLaws.{generators, get_or-generators, sub-generators}
+use Rattle.pq_base.proofs.words.WordGroup.{joined-sub_same}
+use Rattle.pq_base.proofs.NormalLists.{normal-entry}
 use Rattle.pc_presentation.specs.Rowed.{flat, power_row, commutator_row}
 use Rattle.p_cover.specs.RowedAnswer.{RowedAnswer, IsRowedAnswer, rowed, row_at, rowed_images, tails_word}
-use Rattle.p_cover.specs.EntryWords.{IsSourceOf, spelling_words, entry_word}
+use Rattle.pq_base.specs.EntryWords.{IsSourceOf, spelling_words, entry_word}
 use Rattle.p_cover.specs.RowedLaws.{EntryWordsHold}
-use Rattle.p_cover.proofs.FlatWords.{power-with_row, commutator-with_row}
+use Rattle.pc_presentation.proofs.rows.FlatWords.{power-with_row, commutator-with_row}
 use Rattle.p_cover.proofs.RowedSpellings.{rowed_image, spelled-with_rows}
-
--- an entry of a list of normal words
-normal_at : (p n : ℕ) (es : List (List ℕ)) (i : ℕ) → i < length es → AreNormal p n es → IsNormal p n (get_or es i [])
-normal_at p n [] i l h = absurd (omega arith)
-normal_at p n (e ∷ es) zero l h = h.0
-normal_at p n (e ∷ es) (suc i) l h = normal_at p n es i (omega arith) h.1
 
 module _ (Y : RowedAnswer) (is : IsRowedAnswer Y) where
   -- a word in spelled generators
@@ -65,7 +60,7 @@ module _ (Y : RowedAnswer) (is : IsRowedAnswer Y) where
   entry-row (image (suc i)) h =
       let e : List ℕ = get_or Y.answer.images i [] in
       let normal : IsNormal Y.answer.presentation.prime Y.answer.presentation.rank (get_or Y.answer.images i []) =
-      normal_at Y.answer.presentation.prime Y.answer.presentation.rank Y.answer.images i h is.answer.images in
+      normal-entry Y.answer.presentation.prime Y.answer.presentation.rank Y.answer.images i is.answer.images h in
       let c = normal.count in
       let word : get_or (image_words Y.answer) i [] ≡ normal_word (get_or Y.answer.images i []) = get_or-map normal_word Y.answer.images i [] in
       let in_range : HasLetters Y.answer.presentation.rank (get_or (image_words Y.answer) i []) =
@@ -91,4 +86,4 @@ module _ (Y : RowedAnswer) (is : IsRowedAnswer Y) where
       (power-with_row (rowed Y) is.presentation j h)
 
 pub entry_words_hold : EntryWordsHold
-entry_words_hold Y is big d h = entry-row Y is d h
+entry_words_hold Y is d h = entry-row Y is d h

@@ -14,21 +14,12 @@ use Rattle.pc_presentation.specs.Syllable.{spread}
 use Rattle.pc_presentation.specs.Relation.{IsRelation, side_start, relation_number}
 use Rattle.pc_presentation.specs.Pcp.{right_side, sides_of, tail_of}
 use Rattle.pc_presentation.specs.Builder.{Draft, WasGiven, extended}
-use Rattle.pc_presentation.proofs.RelationNumbers.{relation_number-injective}
-use Rattle.pc_presentation.proofs.SyllableLaws.{spread-syllables_of}
-use Rattle.pc_presentation.proofs.EntryLaws.{with_entry-shape, entry_at-with_entry_same, entry_at-with_entry_other}
+use Rattle.pc_presentation.proofs.presentations.RelationNumbers.{relation_number-injective}
+use Rattle.pc_presentation.proofs.presentations.SyllableLaws.{spread-syllables_of}
+use Rattle.pc_presentation.proofs.normal_tables.EntryLaws.{with_entry-shape, entry_at-with_entry_same, entry_at-with_entry_other}
 use Rattle.p_cover.specs.Sources.{relation_source, place_in}
 use Rattle.p_cover.specs.Given.{IsFaithful, IsBegun, Gives, GoesOn, Completes, answer_word}
-use Rattle.p_cover.proofs.PlaceLaws.{same_definition-eq, place_in-outside, place_from-first}
-
-same_power : (i k : ℕ) → power i ≡ power k → i ≡ k
-same_power i k e = cc
-
-same_first : (j i l k : ℕ) → commutator j i ≡ commutator l k → j ≡ l
-same_first j i l k e = cc
-
-same_second : (j i l k : ℕ) → commutator j i ≡ commutator l k → i ≡ k
-same_second j i l k e = cc
+use Rattle.p_cover.proofs.PlaceLaws.{same_definition-eq, place_in-outside, place_from-first, same_power, same_first, same_second}
 
 power_no_commutator : (i j k : ℕ) → power i ≢ commutator j k
 power_no_commutator i j k e = cc

@@ -10,8 +10,8 @@ use Rattle.pc_presentation.specs.declared.relation.Relation.TheVariants.{Power a
 use Rattle.pc_presentation.specs.Relation.{IsRelation, per_relation}
 use Rattle.pc_presentation.specs.Pcp.{TailedPresentation, HasShape, sides_of}
 use Rattle.pc_presentation.specs.Builder.{Draft, WasGiven, empty_draft}
-use Rattle.pc_presentation.proofs.RelationTables.{entry_at-per_relation, per_relation-shape}
-use Rattle.pc_presentation.proofs.EntryLaws.{same_tables}
+use Rattle.pc_presentation.proofs.presentations.RelationTables.{entry_at-per_relation, per_relation-shape}
+use Rattle.pc_presentation.proofs.normal_tables.EntryLaws.{same_tables}
 use Rattle.p_cover.specs.Sources.{relation_source, place_in}
 use Rattle.p_cover.specs.Covers.{covering}
 use Rattle.p_cover.specs.Given.{IsFaithful, IsBegun, Completes, IsPowerTo, IsCommutatorOf, IsCommutatorTo, IsAny}
@@ -89,7 +89,7 @@ module _ (A : Answer) (D E F : Draft) where
 
 module _ (A : Answer) (ds : List Source) (is : IsPresentation A.presentation) where
   -- nothing was given
-  pub begun-empty : (p tails : ℕ) (weights : List ℕ) → 1 ≤ p → p ≡ A.presentation.prime → weights ≡ A.weights → tails ≡ length ds
+  pub begun-empty : (p tails : ℕ) (weights : List ℕ) → 2 ≤ p → p ≡ A.presentation.prime → weights ≡ A.weights → tails ≡ length ds
       → length A.weights ≡ A.presentation.rank → IsBegun A ds 0 (empty_draft p weights tails)
   begun-empty p tails weights one prime same count rank =
       let n : ℕ = length weights in

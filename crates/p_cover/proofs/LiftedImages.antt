@@ -14,19 +14,19 @@ use Rattle.pc_presentation.specs.Syllable.{spread, syllables_of, AreSyllables}
 use Rattle.pc_presentation.specs.Pcp.{IsTailedPresentation, row_of}
 use Rattle.pc_presentation.specs.Collection.{State}
 use Rattle.pc_presentation.specs.Tailed.{Element, IsElement, one_of, with_state}
-use Rattle.pc_presentation.proofs.PcpLaws.{offered-two}
-use Rattle.pc_presentation.proofs.SyllableLaws.{spread-syllables_of, AreSyllables-syllables_of}
-use Rattle.pc_presentation.proofs.TailRowLaws.{row_of-normal}
+use Rattle.pc_presentation.proofs.presentations.SyllableLaws.{spread-syllables_of, AreSyllables-syllables_of}
+use Rattle.pc_presentation.proofs.rows.TailRowLaws.{row_of-normal}
 use Rattle.p_cover.specs.RowedAnswer.{states_with, image_states}
 use Rattle.p_cover.specs.Sources.{place_in}
 use Rattle.p_cover.specs.Covers.{CoverOf, cover_presentation, rowed_cover}
 use Rattle.p_cover.specs.Images.{lifted_images}
 use Rattle.p_cover.specs.Lifted.{lifted_image}
-use Rattle.p_cover.proofs.NumberLists.{length-numbers_from, get_or-map_numbers}
+use Rattle.pq_base.proofs.NumberLists.{length-numbers_from, get_or-map_numbers}
+use Rattle.pq_base.proofs.NormalLists.{normal-entry}
 use Rattle.p_cover.proofs.PlaceLaws.{IsTail-place_in}
 
 -- the entries of the images with rows
-length-states_with : (es xs : List (List ℕ)) → length es ≡ length xs → length (states_with es xs) ≡ length es
+pub length-states_with : (es xs : List (List ℕ)) → length es ≡ length xs → length (states_with es xs) ≡ length es
 length-states_with [] xs h = refl
 length-states_with (e ∷ es) [] h = absurd (omega arith)
 length-states_with (e ∷ es) (x ∷ xs) h = ap suc (length-states_with es xs (omega arith))
@@ -37,11 +37,6 @@ get_or-states_with [] xs i d h l = absurd (omega arith)
 get_or-states_with (e ∷ es) [] i d h l = absurd (omega arith)
 get_or-states_with (e ∷ es) (x ∷ xs) zero d h l = refl
 get_or-states_with (e ∷ es) (x ∷ xs) (suc i) d h l = get_or-states_with es xs i d (omega arith) (omega arith)
-
-pub AreNormal-at : (p n : ℕ) (es : List (List ℕ)) (i : ℕ) → AreNormal p n es → i < length es → IsNormal p n (get_or es i [])
-AreNormal-at p n [] i h l = absurd (omega arith)
-AreNormal-at p n (e ∷ es) zero h l = h.0
-AreNormal-at p n (e ∷ es) (suc i) h l = AreNormal-at p n es i h.1 (omega arith)
 
 module _ (C : CoverOf) (is : IsAnswer C.answer) where
   rows_count : length C.answer.images ≡ length (rowed_cover C).image_rows
@@ -92,9 +87,9 @@ module _ (C : CoverOf) (is : IsAnswer C.answer) where
         prime = refl;
         state = record {
           exponents = subst (λ (i : ℕ). IsNormal C.answer.presentation.prime C.answer.presentation.rank (get_or C.answer.images i [])) (sym back)
-              (AreNormal-at C.answer.presentation.prime C.answer.presentation.rank C.answer.images k is.images (omega arith));
+              (normal-entry C.answer.presentation.prime C.answer.presentation.rank C.answer.images k is.images (omega arith));
           row = row_of-normal C.answer.presentation.prime (length C.sources) (place_in C.sources (image (k + 1)))
-              (offered-two C.answer.presentation.prime T.prime);
+              T.presentation.prime;
         };
       }))
 
@@ -124,7 +119,7 @@ module _ (C : CoverOf) (i : ℕ) (e : Element) (w : List Syllable) (zeros : e �
     image-normal : IsNormal C.answer.presentation.prime C.answer.presentation.rank (image_exponents C i)
     image-normal =
         let count : length C.answer.images ≡ length C.answer.names = is.image_count in
-        AreNormal-at C.answer.presentation.prime C.answer.presentation.rank C.answer.images (i - 1) is.images (omega arith)
+        normal-entry C.answer.presentation.prime C.answer.presentation.rank C.answer.images (i - 1) is.images (omega arith)
 
     zeros_count : length e.state.exponents ≡ C.answer.presentation.rank
     zeros_count = ap (λ (x : Element). length x.state.exponents) zeros ∙ length-replicate C.answer.presentation.rank 0

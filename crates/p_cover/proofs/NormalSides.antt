@@ -13,9 +13,9 @@ use Rattle.pc_presentation.specs.Syllable.{AreSyllables, AreLater}
 use Rattle.pc_presentation.specs.Relation.{IsRelation, IsTail, side_start}
 use Rattle.pc_presentation.specs.Pcp.{right_side}
 use Rattle.pc_presentation.specs.Builder.{Draft, AreInRange, IsRefused}
-use Rattle.pc_presentation.proofs.SyllableLaws.{AreSyllables-syllables_of, AreSyllables-weaken}
-use Rattle.pc_presentation.proofs.WordTests.{AreGenerators-AreSyllables, normal_from-AreSyllables}
-use Rattle.pc_presentation.proofs.TailedLaws.{later-syllables_of}
+use Rattle.pc_presentation.proofs.presentations.SyllableLaws.{AreSyllables-syllables_of, AreSyllables-weaken}
+use Rattle.pc_presentation.proofs.presentations.WordTests.{AreGenerators-AreSyllables, normal_from-AreSyllables}
+use Rattle.pc_presentation.proofs.quotients.TailedLaws.{later-syllables_of}
 use Rattle.p_cover.specs.Given.{IsDraftOf, answer_word}
 
 side-facts : (A : Answer) → IsPresentation A.presentation → (r : Relation) → IsRelation A.presentation.rank r

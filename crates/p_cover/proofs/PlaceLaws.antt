@@ -118,3 +118,13 @@ module _ (ds : List Source) (d : Source) (k : ℕ) where
       next_entry l
       ∙ found-true (same_definition d (get_or ds k (image 0))) (suc k) (place_from (suc (suc k)) (drop (k + 1) ds) d) h
       ∙ ap Some next
+
+-- equal sources have equal numbers
+pub same_power : (i k : ℕ) → power i ≡ power k → i ≡ k
+same_power i k e = cc
+
+pub same_first : (j i l k : ℕ) → commutator j i ≡ commutator l k → j ≡ l
+same_first j i l k e = cc
+
+pub same_second : (j i l k : ℕ) → commutator j i ≡ commutator l k → i ≡ k
+same_second j i l k e = cc

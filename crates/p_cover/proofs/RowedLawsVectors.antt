@@ -8,10 +8,11 @@ use Rattle.pq_base.specs.Answer.{Answer}
 use Rattle.pq_base.specs.Answer.Definition.{image, commutator, power}
 use Rattle.pq_base.proofs.ElementaryLaws.{elementary_laws}
 use Rattle.pc_presentation.specs.Rowed.{RowedPresentation, IsRowed, flat}
-use Rattle.p_cover.specs.EntryWords.{IsSourceOf, spelling_words, entry_word}
-use Rattle.p_cover.specs.RowedLaws.{negative_row, projection, IsUpToRow}
-use Rattle.p_cover.proofs.FlatWords.{power-with_row}
-use Rattle.p_cover.proofs.Projections.{sub-row_word, joined-projected}
+use Rattle.pq_base.specs.EntryWords.{IsSourceOf, spelling_words, entry_word}
+use Rattle.fp_rows.specs.Rows.{negative_row}
+use Rattle.pc_presentation.specs.RowedLaws.{projection, IsUpToRow}
+use Rattle.pc_presentation.proofs.rows.FlatWords.{power-with_row}
+use Rattle.pc_presentation.proofs.rows.Projections.{sub-row_word, joined-projected}
 
 -- the negative of a row
 negative_of_three : negative_row 3 (1 ∷ 2 ∷ 0 ∷ []) ≡ 2 ∷ 1 ∷ 0 ∷ []

@@ -8,15 +8,15 @@ use Rattle.pq_base.specs.Presentation.{letter, word_from, normal_word, power_wor
 use Rattle.pq_base.specs.Joined.{Joined}
 use Rattle.pq_base.specs.Answer.{Definition, HasDefinition, image_words, definition_at, spell}
 use Rattle.pq_base.specs.Answer.Definition.{image, commutator, power}
-use Rattle.pq_base.proofs.WordLaws.{word_from-zeros}
-use Rattle.pq_base.proofs.JoinedLaws.{joined-from_equal, joined-sym}
+use Rattle.pq_base.proofs.words.WordLaws.{word_from-zeros}
+use Rattle.pq_base.proofs.words.JoinedLaws.{joined-from_equal, joined-sym}
 use Rattle.pc_presentation.specs.Rowed.{RowedPresentation, power_row, commutator_row, flat}
 use Rattle.pc_presentation.specs.Arithmetic.{word_of}
-use Rattle.pc_presentation.proofs.LetterWords.{letters-spelled}
+use Rattle.pc_presentation.proofs.consistent.LetterWords.{letters-spelled}
 use Rattle.p_cover.specs.RowedAnswer.{RowedAnswer, IsRowedAnswer, rowed, row_at, states_with, rowed_images}
 use Rattle.p_cover.specs.RowedLaws.{SpellingsHoldWithRows}
-use Rattle.p_cover.proofs.FlatWords.{power-with_row, commutator-with_row}
-use Rattle.p_cover.proofs.SpelledWords.{IsDefinedBy, definitions-spelled}
+use Rattle.pc_presentation.proofs.rows.FlatWords.{power-with_row, commutator-with_row}
+use Rattle.pq_base.proofs.words.SpelledWords.{IsDefinedBy, definitions-spelled}
 
 -- an image with its row
 word_of-states_with : (Z : RowedPresentation) (es xs : List (List ℕ)) (i : ℕ) → length es ≡ length xs
@@ -79,4 +79,4 @@ module _ (Y : RowedAnswer) (is : IsRowedAnswer Y) where
       all.each k (omega arith)
 
 pub spellings_hold_with_rows : SpellingsHoldWithRows
-spellings_hold_with_rows Y is big k l = spelled-with_rows Y is k l
+spellings_hold_with_rows Y is k l = spelled-with_rows Y is k l

@@ -5,13 +5,14 @@ use Rattle.std.specs.Prelude.{All, filter}
 use Rattle.std.proofs.lemmas.List.{length-append, length-map}
 use Rattle.std.proofs.lemmas.List.Elements.{All-nil, All-head, All-tail, All-append, All-map, All-filter, filter_passes}
 use Rattle.std.proofs.lemmas.List.Filters.{length-filter_both}
+use Rattle.pq_base.specs.Limits.{max_names, max_rank}
 use Rattle.pq_base.specs.Answer.{Answer, Definition as Source, class_of}
 use Rattle.pq_base.specs.Answer.Definition.{image, commutator, power}
 use Rattle.pq_base.specs.Canonical.{numbers_from, is_among, commutators_of, commutators_up_to, all_commutators, all_powers, all_images, is_qualifying, preferred}
 use Rattle.p_cover.specs.Sources.{IsPartOf}
 use Rattle.p_cover.specs.Covers.{all_sources}
 use Rattle.p_cover.specs.CoverLaws.{IsSource}
-use Rattle.p_cover.proofs.NumberLists.{All-numbers, length-numbers_from}
+use Rattle.pq_base.proofs.NumberLists.{All-numbers, length-numbers_from}
 use Rattle.p_cover.proofs.PartLaws.{All-part, part-length}
 
 module _ (A : Answer) where
@@ -72,31 +73,35 @@ module _ (A : Answer) where
   pub part-undefined : {ds : List Source} → IsPartOf ds (all_sources A) → All (λ d. not (is_among d A.definitions) ≡ true) ds
   part-undefined h = All-part (λ d. not (is_among d A.definitions) ≡ true) h all_sources-undefined
 
+-- no answer has more sources
+abbrev pub most_sources : ℕ
+most_sources = 2 * (max_rank * max_rank + max_rank) + max_names
+
 length-filter_le : (p : Source → Bool) (xs : List Source) → length (filter p xs) ≤ length xs
 length-filter_le p xs = omega (arith, length-filter_both p (λ x. not (p x)) (λ x. refl) xs)
 
-length-commutators_of : (j : ℕ) → j ≤ 101 → length (commutators_of j) ≤ 100
+length-commutators_of : (j : ℕ) → j ≤ suc max_rank → length (commutators_of j) ≤ max_rank
 length-commutators_of zero h = omega arith
 length-commutators_of (suc m) h = omega (arith, length-map (numbers_from 1 m) (λ i. commutator (suc m) i), length-numbers_from 1 m)
 
-length-commutators_up_to : (a n : ℕ) → a + n ≤ 101 → length (commutators_up_to (numbers_from a n)) ≤ n * 100
+length-commutators_up_to : (a n : ℕ) → a + n ≤ suc max_rank → length (commutators_up_to (numbers_from a n)) ≤ n * max_rank
 length-commutators_up_to a zero h = omega arith
 length-commutators_up_to a (suc n) h =
     let rest = length-commutators_up_to (suc a) n (omega arith) in
     let row = length-commutators_of a (omega arith) in
     omega (arith, length-append (commutators_of a) (commutators_up_to (numbers_from (suc a) n)))
 
-module _ (A : Answer) (few : A.presentation.rank ≤ 100) (names : length A.names ≤ 32) where
-  few_commutators : length (all_commutators A.presentation.rank) ≤ 10000
+module _ (A : Answer) (few : A.presentation.rank ≤ max_rank) (names : length A.names ≤ max_names) where
+  few_commutators : length (all_commutators A.presentation.rank) ≤ max_rank * max_rank
   few_commutators = omega (arith, length-commutators_up_to 1 A.presentation.rank (omega arith))
 
-  few_powers : length (all_powers A.presentation.rank) ≤ 100
+  few_powers : length (all_powers A.presentation.rank) ≤ max_rank
   few_powers = omega (arith, length-map (numbers_from 1 A.presentation.rank) power, length-numbers_from 1 A.presentation.rank)
 
-  few_images : length (all_images (length A.names)) ≤ 32
+  few_images : length (all_images (length A.names)) ≤ max_names
   few_images = omega (arith, length-map (numbers_from 1 (length A.names)) image, length-numbers_from 1 (length A.names))
 
-  few_preferred : (k : ℕ) → length (preferred A k) ≤ 20232
+  few_preferred : (k : ℕ) → length (preferred A k) ≤ most_sources
   few_preferred zero = omega (arith, few_images)
   few_preferred (suc k) =
       let cs = all_commutators A.presentation.rank in
@@ -118,8 +123,8 @@ module _ (A : Answer) (few : A.presentation.rank ≤ 100) (names : length A.name
         length-append (filter later ps) (all_images (length A.names)),
       )
 
-  pub few_sources : length (all_sources A) ≤ 20232
+  pub few_sources : length (all_sources A) ≤ most_sources
   few_sources = omega (arith, length-filter_le (λ d. not (is_among d A.definitions)) (preferred A (class_of A)), few_preferred (class_of A))
 
-  pub few_in_part : {ds : List Source} → IsPartOf ds (all_sources A) → length ds ≤ 20232
+  pub few_in_part : {ds : List Source} → IsPartOf ds (all_sources A) → length ds ≤ most_sources
   few_in_part h = omega (arith, part-length h, few_sources)

@@ -11,8 +11,9 @@ use Rattle.pq_base.specs.Answer.Definition.{image, commutator, power}
 use Rattle.pq_base.specs.Canonical.{numbers_from, is_among, commutators_of, commutators_up_to, all_commutators, all_powers, all_images, is_qualifying, preferred}
 use Rattle.p_cover.specs.Covers.{all_sources}
 use Rattle.p_cover.specs.CoverLaws.{QualifyingSourcesComeFirst}
-use Rattle.p_cover.proofs.NumberLists.{length-numbers_from, get_or-map_numbers}
+use Rattle.pq_base.proofs.NumberLists.{length-numbers_from, get_or-map_numbers}
 use Rattle.p_cover.proofs.ListPairs.{AllPairs-nil, AllPairs-append, AllPairs-weaker}
+use Rattle.p_cover.proofs.PlaceLaws.{same_power, same_second}
 
 -- the number of the part in which a source stands at class k
 abbrev pub part_of : Answer → ℕ → Source → ℕ
@@ -33,12 +34,6 @@ before_in_later_part A k d e h = record {
 
 same_image : (i k : ℕ) → image i ≡ image k → i ≡ k
 same_image i k e = cc
-
-same_power : (i k : ℕ) → power i ≡ power k → i ≡ k
-same_power i k e = cc
-
-same_second : (j i l k : ℕ) → commutator j i ≡ commutator l k → i ≡ k
-same_second j i l k e = cc
 
 -- the first generator of a commutator
 abbrev first_of : Source → ℕ

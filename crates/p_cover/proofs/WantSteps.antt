@@ -12,7 +12,7 @@ use Rattle.p_cover.specs.declared.source.TailSource.{TailSource}
 use Rattle.p_cover.specs.Sources.{source_of}
 use Rattle.p_cover.specs.Covers.{all_sources}
 use Rattle.p_cover.specs.Wanted.{is_wanted, wanted}
-use Rattle.p_cover.proofs.NumberLists.{numbers-more, map_numbers-more}
+use Rattle.pq_base.proofs.NumberLists.{numbers-more, map_numbers-more}
 
 module _ (A : Answer) (k : ℕ) (first : Bool) where
   pub wanted-none : (start : List Source) → start ≡ start ++ wanted A k first []

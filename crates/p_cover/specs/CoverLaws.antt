@@ -34,8 +34,7 @@ abbrev pub QualifyingSourcesComeFirst : Type 0
 QualifyingSourcesComeFirst = (A : Answer) → 1 ≤ class_of A
     → AllPairs (λ d e. is_qualifying A (class_of A) e ≡ true → is_qualifying A (class_of A) d ≡ true) (all_sources A)
 
--- a cover is an answer with rows, which its presentation with tails has too; only where there are no generators doesn't
--- the answer say that the prime is at least 2
+-- a cover is an answer with rows, which its presentation with tails has too
 abbrev pub CoversAreRowedAnswers : Type 0
-CoversAreRowedAnswers = (A : Answer) (ds : List Source) → IsAnswer A → 2 ≤ A.presentation.prime → IsPartOf ds (all_sources A)
+CoversAreRowedAnswers = (A : Answer) (ds : List Source) → IsAnswer A → IsPartOf ds (all_sources A)
     → IsRowedAnswer (cover_on A ds) × (rowed (cover_on A ds) ≡ rowed_presentation (covering A ds))

@@ -2,7 +2,7 @@ pub mod RowedAnswer
 pub mod Sources
 pub mod Covers
 pub mod Images
-pub mod EntryWords
+pub mod ImageValues
 pub mod RowedLaws
 pub mod ImageTails
 pub mod Wanted

@@ -11,8 +11,6 @@ pub mod images;
 pub mod laws;
 pub mod rowed_laws;
 pub mod source;
-#[cfg(test)]
-mod tests;
 mod want;
 
 pub use cover::{Cover, cover_of, full_cover};

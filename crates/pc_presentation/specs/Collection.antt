@@ -58,9 +58,6 @@ pub data Run (p : ℕ) (R : List ℕ → List ℕ → List ℕ → Type 0) : Con
   stop : {c : Configuration} → Run p R c c
   move : {c d e : Configuration} → Step p R c d → Run p R d e → Run p R c e
 
-abbrev pub DirectedStep : RowedPresentation → Configuration → Configuration → Type 0
-DirectedStep Y c d = Step Y.base.prime (Replacement Y) c d
-
 abbrev pub DirectedRun : RowedPresentation → Configuration → Configuration → Type 0
 DirectedRun Y c d = Run Y.base.prime (Replacement Y) c d
 

@@ -9,9 +9,12 @@ pub mod Rowed
 pub mod Collection
 pub mod Overlaps
 pub mod OverlapNumbers
+pub mod OverlapRows
 pub mod Arithmetic
 pub mod NormalTable
 pub mod CollectionLaws
 pub mod Tailed
 pub mod Scratch
 pub mod ImageElements
+pub mod RowedLaws
+pub mod CutLaws

@@ -3,6 +3,7 @@
 use Rattle.std.specs.Prelude.{◌≡◌, ◌<◌, ◌≤◌, ◌+◌, ◌-◌, ℕ, Bool, true, nat_le, ◌&&◌, List, [], ◌∷◌, get_or, length, map, replicate, All}
 use Rattle.std.specs.declared.vec.Vec.{Vec}
 use Rattle.std.specs.Global.{Global}
+use Rattle.pq_base.specs.Limits.{max_class, max_names}
 use Rattle.pq_base.specs.LPresentation.{AreDistinct}
 use Rattle.pq_base.specs.Elementary.{elementary}
 use Rattle.pq_base.specs.Answer.{Answer, IsAnswer}
@@ -49,17 +50,17 @@ IsDefined T words g (Power j) = (1 < get_or T.weights (g - 1) 0) × (1 ≤ j) ×
 abbrev pub AreDefined : TailedPresentation → List (List Syllable) → List Definition → Type 0
 AreDefined T words definitions = (k : ℕ) (d : Definition) → k < length definitions → IsDefined T words (k + 1) (get_or definitions k d)
 
--- weights are from a least one to 60 and never fall
+-- weights are from a least one to the greatest class and never fall
 abbrev pub are_weights : ℕ → List ℕ → Bool
 are_weights least [] = true
-are_weights least (w ∷ ws) = nat_le least w && (nat_le w 60 && are_weights w ws)
+are_weights least (w ∷ ws) = nat_le least w && (nat_le w max_class && are_weights w ws)
 
 -- the conditions one by one, as they are tested
 pub record AreTested (T : TailedPresentation) (names : List (List ℕ)) (definitions : List Definition) (words : List (List Syllable)) : Type 0 where
   pub no_tails : T.tails ≡ 0
   pub rising : are_weights 1 T.weights ≡ true
   pub some_name : 1 ≤ length names
-  pub name_limit : length names ≤ 32
+  pub name_limit : length names ≤ max_names
   pub distinct : AreDistinct names
   pub image_count : length words ≡ length names
   pub normal : AreImages T.presentation.prime T.presentation.rank words

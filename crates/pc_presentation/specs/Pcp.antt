@@ -2,6 +2,7 @@
 -- A tail stands for a central generator of order p that the relation's right side ends with.
 use Rattle.std.specs.Prelude.{◌≡◌, ◌<◌, ◌≤◌, ◌-◌, ℕ, zero, suc, List, [], ◌∷◌, get_or, length, map, Option, Some, None, replicate, cond, eqb}
 use Rattle.pq_base.specs.Presentation.{Presentation, IsPresentation}
+use Rattle.pq_base.specs.Limits.{max_rank}
 use Rattle.pq_base.specs.Prime.{IsOffered}
 use Rattle.pq_base.specs.Elementary.{elementary}
 use Rattle.pc_presentation.specs.declared.syllable.Syllable.{Syllable}
@@ -76,7 +77,7 @@ plain_presentation p weights tails = record {
 pub record IsTailedPresentation (T : TailedPresentation) : Type 0 where
   pub prime : IsOffered T.presentation.prime
   pub presentation : IsPresentation T.presentation
-  pub rank_limit : T.presentation.rank ≤ 100
+  pub rank_limit : T.presentation.rank ≤ max_rank
   pub weight_count : length T.weights ≡ T.presentation.rank
   pub tail_shape : HasShape T.presentation.rank T.tail_table
   pub tails : (r : Relation) → IsRelation T.presentation.rank r → IsTail T.tails (tail_of T r)

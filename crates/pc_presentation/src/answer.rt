@@ -1,6 +1,7 @@
 //! Answers as values.
 
 ghost use Rattle.std.specs.Prelude.{◌≡◌, ◌≤◌, ◌-◌, get_or, length, IfSome, IfNone, OnSome, IfOk, []};
+ghost use Rattle.pq_base.specs.Limits.{max_names};
 ghost use Rattle.pq_base.specs.Prime.{prime_value};
 ghost use Rattle.pq_base.specs.LPresentation.{AreDistinct};
 ghost use Rattle.pq_base.specs.Answer.{IsAnswer, class_of, definition_at};
@@ -66,7 +67,7 @@ impl Answer {
     /// The answer without generators, of class 0, where each given generator has the empty word as its image.
     pub fn trivial(alloc: Global, prime: Prime, names: &[Name]) -> Result<Answer, NoMemory>
         requires some { 1 ≤ length names.now }
-        requires limit { length names.now ≤ 32 }
+        requires limit { length names.now ≤ max_names }
         requires distinct { AreDistinct names.now }
         ensures { IfOk result (λ a. a ≡ trivial_answer (prime_value prime) names.now) }
     {

@@ -26,7 +26,8 @@ pub fn product<C: Collect>(s: &mut Scratch<C>, pcp: &Pcp, u: &Elem, v: &Elem, ou
     ensures scratch { IsScratch pcp.now s.new }
     ensures element { IsElement pcp.now out.new }
     ensures product { let Y = rowed_presentation pcp.now in out.new.state ≡ product_by Y (C.meaning Y) u.now.state v.now.state }
-    ensures joined { let Y = rowed_presentation pcp.now in Joined (flat Y) (word_of Y out.new.state) (word_of Y u.now.state ++ word_of Y v.now.state) }
+    ensures joined { let Y = rowed_presentation pcp.now in
+        Joined (flat Y) (word_of Y out.new.state) (word_of Y u.now.state ++ word_of Y v.now.state) }
 {
     multiply_into(&mut s.collector, pcp, u, v, out);
 }
@@ -38,7 +39,8 @@ pub fn inverse<C: Collect>(s: &mut Scratch<C>, pcp: &Pcp, u: &Elem, out: &mut El
     requires out { IsElement pcp.now out.old }
     ensures scratch { IsScratch pcp.now s.new }
     ensures element { IsElement pcp.now out.new }
-    ensures inverse { let Y = rowed_presentation pcp.now in product_by Y (C.meaning Y) u.now.state out.new.state ≡ identity Y Y.base.rank }
+    ensures inverse { let Y = rowed_presentation pcp.now in
+        product_by Y (C.meaning Y) u.now.state out.new.state ≡ identity Y Y.base.rank }
     ensures joined { let Y = rowed_presentation pcp.now in Joined (flat Y) (word_of Y out.new.state) (inv (word_of Y u.now.state)) }
 {
     s.left.copy_from(u);

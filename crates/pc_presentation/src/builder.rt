@@ -1,6 +1,7 @@
 //! How a presentation is made, relation by relation.
 
 ghost use Rattle.std.specs.Prelude.{◌≡◌, ◌≤◌, ◌↔◌, length, IfOk, IfErr, OnOk, OnErr, MatchOption, IsTrue};
+ghost use Rattle.pq_base.specs.Limits.{max_rank};
 ghost use Rattle.pq_base.specs.Prime.{prime_value};
 ghost use Rattle.pc_presentation.specs.declared.builder.PcpRefusal.TheVariants.{NoMemory as WantOfMemory};
 ghost use Rattle.pc_presentation.specs.Relation.{IsRelation, IsTail};
@@ -70,7 +71,7 @@ impl PcpBuilder {
         weights: &[u8],
         tails: u16,
     ) -> Result<PcpBuilder, NoMemory>
-        requires { length weights.now ≤ 100 }
+        requires { length weights.now ≤ max_rank }
         ensures { IfOk result (λ b. b ≡ empty_draft (prime_value prime) weights.now tails) }
     {
         Ok(PcpBuilder {

@@ -50,5 +50,5 @@ pub trait Collect: Sized {
 
     /// Each state that a push makes is reached by a run of directed steps from the normal word with the generator behind
     /// it. Each step adds the row of its relation.
-    ghost reaches: { (Y : RowedPresentation) → IsRowed Y → 0 < Y.base.prime → IsMeaning Y (meaning Y) };
+    ghost reaches: { (Y : RowedPresentation) → IsRowed Y → IsMeaning Y (meaning Y) };
 }

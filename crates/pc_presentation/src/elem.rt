@@ -1,6 +1,7 @@
 //! Elements: exponents of the generators, and a row over the tails.
 
 ghost use Rattle.std.specs.Prelude.{◌≡◌, ◌≤◌, ◌<◌, ◌-◌, get_or, length, replicate, slice_set, take, drop, ◌++◌, IfOk};
+ghost use Rattle.pq_base.specs.Limits.{max_rank};
 ghost use Rattle.fp_rows.specs.Rows.{IsRow, add_scaled};
 ghost use Rattle.fp_rows.specs.Row.{IsColumn};
 ghost use Rattle.pc_presentation.specs.Pcp.{unit_row};
@@ -11,6 +12,7 @@ use crate::pcp::Pcp;
 use arrayvec::ArrayVec;
 use fp_rows::Row;
 use pq_base::NoMemory;
+use pq_base::limits::RANK;
 use std::alloc::Global;
 use std::marker::Model;
 
@@ -18,7 +20,7 @@ use std::marker::Model;
 /// takes memory.
 #[derive(Debug, Drop)]
 pub struct Elem {
-    exponents: ArrayVec<u8, 100>,
+    exponents: ArrayVec<u8, RANK>,
     tails: Row,
 }
 
@@ -147,9 +149,9 @@ impl Elem {
 }
 
 /// So many zeros.
-#[tactic(auto, using(crate::proofs::ElementLaws::replicate_more))]
-fn zero_exponents(rank: u16) -> ArrayVec<u8, 100>
-    requires { rank ≤ 100 }
+#[tactic(auto, using(crate::proofs::quotients::ElementLaws::replicate_more))]
+fn zero_exponents(rank: u16) -> ArrayVec<u8, RANK>
+    requires { rank ≤ max_rank }
     ensures { result.items ≡ replicate rank 0 }
 {
     let mut exponents = ArrayVec::new();

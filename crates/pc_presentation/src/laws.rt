@@ -8,52 +8,52 @@ pub fn plain_pushes_are_runs()
 {}
 
 /// Rows ride along: a row that is added before a push of the plain rule is added behind it.
-#[tactic(auto, using(crate::proofs::Consistency::rows_ride_along))]
+#[tactic(auto, using(crate::proofs::consistent::Consistency::rows_ride_along))]
 pub fn rows_ride_along()
     ensures { RowsRideAlong }
 {}
 
 /// Each run that pushes a generator on a state leaves the earlier exponents, and raises the generator's own by one modulo
 /// the prime, whatever its steps are.
-#[tactic(auto, using(crate::proofs::FinalExponents::earlier_exponents_are_final))]
+#[tactic(auto, using(crate::proofs::collecting::FinalExponents::earlier_exponents_are_final))]
 pub fn earlier_exponents_are_final()
     ensures { EarlierExponentsAreFinal }
 {}
 
 /// The ends of a directed run are joined in the flat reading, where the tails are the last generators.
-#[tactic(auto, using(crate::proofs::TailLaws::directed_runs_are_joined))]
+#[tactic(auto, using(crate::proofs::rows::TailLaws::directed_runs_are_joined))]
 pub fn directed_runs_are_joined()
     ensures { DirectedRunsAreJoined }
 {}
 
 /// A push of the plain rule is joined in the flat reading to the word of the state with the letter behind it.
-#[tactic(auto, using(crate::proofs::TailLaws::plain_pushes_are_joined))]
+#[tactic(auto, using(crate::proofs::rows::TailLaws::plain_pushes_are_joined))]
 pub fn plain_pushes_are_joined()
     ensures { PlainPushesAreJoined }
 {}
 
 /// In every presentation each signed word over the generators is joined to a normal word. This is the half of
 /// consistency that asks nothing.
-#[tactic(auto, using(crate::proofs::Consistency::words_reach_normal_words))]
+#[tactic(auto, using(crate::proofs::consistent::Consistency::words_reach_normal_words))]
 pub fn words_reach_normal_words()
     ensures { WordsReachNormalWords }
 {}
 
 /// The consistency theorem: where for each overlap some chains of pushes of its two ways end alike, distinct normal words
 /// of the flat reading are distinct elements.
-#[tactic(auto, using(crate::proofs::Consistency::agreeing_overlaps_make_consistent))]
+#[tactic(auto, using(crate::proofs::consistent::Consistency::agreeing_overlaps_make_consistent))]
 pub fn agreeing_overlaps_make_consistent()
     ensures { AgreeingOverlapsMakeConsistent }
 {}
 
 /// The consistency theorem for presentations without rows.
-#[tactic(auto, using(crate::proofs::Consistency::agreeing_overlaps_make_consistent_without_rows))]
+#[tactic(auto, using(crate::proofs::consistent::Consistency::agreeing_overlaps_make_consistent_without_rows))]
 pub fn agreeing_overlaps_make_consistent_without_rows()
     ensures { AgreeingOverlapsMakeConsistentWithoutRows }
 {}
 
 /// An overlap whose two ways reach one state by the plain rule agrees by some chains of pushes.
-#[tactic(auto, using(crate::proofs::Consistency::plain_agreement_is_agreement))]
+#[tactic(auto, using(crate::proofs::consistent::Consistency::plain_agreement_is_agreement))]
 pub fn plain_agreement_is_agreement()
     ensures { PlainAgreementIsAgreement }
 {}
@@ -105,13 +105,14 @@ pub fn overlaps_over_consistent_base()
     ensures { OverlapsOverConsistentBase }
 {}
 
-/// A map of rows that keeps sums, and takes the rows of relations to those of another presentation with rows, carries
-/// pushes of the plain rule to pushes of the plain rule with the same exponents.
+/// A map of rows that keeps sums, and takes the rows of relations to those of another presentation with rows, in range and
+/// out of it, carries pushes of the plain rule to pushes of the plain rule with the same exponents.
 pub fn row_maps_carry_pushes()
     ensures { RowMapsCarryPushes }
 {}
 
-/// Such a map carries directed runs to directed runs.
+/// A map of rows that keeps sums, and takes the rows of relations to those of another presentation with rows, as a linear
+/// map does, and one that leaves out columns, carries directed runs to directed runs.
 pub fn row_maps_carry_runs()
     ensures { RowMapsCarryRuns }
 {}

@@ -3,7 +3,8 @@
 //! keeps the conditions of an answer. Contracts see each of them as a record of lists, in which a word is the list of the
 //! exponents of its generators. `arithmetic` computes with elements over any collector. The `specs/` also say what a
 //! directed step, the plain rule and an overlap are; `laws` states what is proved of them: where overlaps agree the
-//! presentation is consistent, and normal words form a group.
+//! presentation is consistent, and normal words form a group. `rowed_laws` are those of presentations with rows, consistent
+//! or not, and `cut_laws` those of presentations cut after some generator.
 #![tactic(auto)]
 
 pub mod answer;
@@ -11,6 +12,7 @@ pub mod arithmetic;
 pub mod builder;
 pub mod collect;
 mod copies;
+pub mod cut_laws;
 pub mod definition;
 pub mod elem;
 pub mod laws;
@@ -19,11 +21,10 @@ mod parts;
 pub mod pcp;
 mod pushing;
 pub mod relation;
+pub mod rowed_laws;
 pub mod scratch;
 mod store;
 pub mod syllable;
-#[cfg(test)]
-mod tests;
 
 pub use answer::Answer;
 pub use arithmetic::{commutator, evaluate, inverse, power, product, value};

@@ -1,6 +1,7 @@
 //! Whether parts make an answer.
 
 ghost use Rattle.std.specs.Prelude.{◌≡◌, ◌≤◌, ◌<◌, ◌↔◌, IsTrue, length, get_or, ◌-◌, []};
+ghost use Rattle.pq_base.specs.Limits.{max_rank, max_names};
 ghost use Rattle.pq_base.specs.LPresentation.{AreDistinct};
 ghost use Rattle.pc_presentation.specs.Syllable.{IsGenerator};
 ghost use Rattle.pc_presentation.specs.Pcp.{IsTailedPresentation};
@@ -35,7 +36,7 @@ pub(crate) fn are_parts(
 
 /// Whether there are as many names as a presentation may have, no two of them equal.
 fn are_names(names: &[Name]) -> bool
-    ensures { IsTrue result ↔ ((1 ≤ length names.now) × (length names.now ≤ 32) × AreDistinct names.now) }
+    ensures { IsTrue result ↔ ((1 ≤ length names.now) × (length names.now ≤ max_names) × AreDistinct names.now) }
 {
     1 <= names.len() && names.len() <= GENERATORS && are_distinct(names)
 }
@@ -80,7 +81,7 @@ fn are_images(images: &[Vec<Syllable>], prime: u8, rank: u16) -> bool
 /// Whether each definition is that of its generator.
 fn are_defined(pcp: &Pcp, definitions: &[Definition], images: &[Vec<Syllable>]) -> bool
     requires count { length definitions.now ≡ pcp.now.presentation.rank }
-    requires limit { pcp.now.presentation.rank ≤ 100 }
+    requires limit { pcp.now.presentation.rank ≤ max_rank }
     ensures { IsTrue result ↔ AreDefined pcp.now (words_of images.now) definitions.now }
 {
     let mut generator = 0;

@@ -1,6 +1,7 @@
 //! Presentations, with weights and tails.
 
 ghost use Rattle.std.specs.Prelude.{◌≡◌, ◌≤◌, ◌-◌, ℕ, List, get_or, length, IfOk, OnOk, OnErr};
+ghost use Rattle.pq_base.specs.Limits.{max_rank};
 ghost use Rattle.pq_base.specs.Prime.{prime_value};
 ghost use Rattle.pc_presentation.specs.Syllable.{syllables_of, AreSyllables};
 ghost use Rattle.pc_presentation.specs.Relation.{IsRelation, IsTail, side_start};
@@ -25,6 +26,7 @@ pub struct Pcp {
 
 impl Model for Pcp {
     ghost use Rattle.std.specs.Prelude.{◌≤◌, length};
+    ghost use Rattle.pq_base.specs.Limits.{max_rank};
     ghost use Rattle.pq_base.specs.Prime.{prime_value};
     ghost use Rattle.pc_presentation.specs.Store.{AreEntries};
     ghost use Rattle.pc_presentation.specs.Pcp.{TailedPresentation, tailed_presentation};
@@ -33,7 +35,7 @@ impl Model for Pcp {
 
     ghost view = { λ a. tailed_presentation (prime_value a.prime) a.weights.items a.tails a.relations };
 
-    ghost invariant = { λ a. (length a.weights.items ≤ 100) × AreEntries (prime_value a.prime) (length a.weights.items) a.tails a.relations };
+    ghost invariant = { λ a. (length a.weights.items ≤ max_rank) × AreEntries (prime_value a.prime) (length a.weights.items) a.tails a.relations };
 }
 
 impl Pcp {
@@ -98,7 +100,7 @@ impl Pcp {
         weights: &[u8],
         tails: u16,
     ) -> Result<Pcp, NoMemory>
-        requires { length weights.now ≤ 100 }
+        requires { length weights.now ≤ max_rank }
         ensures { IfOk result (λ q. q ≡ plain_presentation (prime_value prime) weights.now tails) }
     {
         Ok(Pcp {

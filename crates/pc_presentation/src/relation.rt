@@ -1,6 +1,7 @@
 //! The relations of a presentation, by the numbers of their generators.
 
 ghost use Rattle.std.specs.Prelude.{◌≡◌, ℕ, ◌<◌, ◌≤◌, ◌↔◌, IsTrue};
+ghost use Rattle.pq_base.specs.Limits.{max_rank};
 ghost use Rattle.pc_presentation.specs.Relation.{IsRelation, side_start, relation_number, relation_count, triangular};
 
 /// A relation, named by its left side. Generators count from 1.
@@ -37,7 +38,7 @@ impl Relation {
     /// by row.
     pub(crate) fn number(self, rank: usize) -> usize
         requires relation { IsRelation rank self }
-        requires limit { rank ≤ 100 }
+        requires limit { rank ≤ max_rank }
         ensures number { result ≡ relation_number rank self }
         ensures below { result < relation_count rank }
     {
@@ -50,18 +51,18 @@ impl Relation {
 
 /// How many relations `rank` generators have.
 pub(crate) fn relation_count(rank: usize) -> usize
-    requires { rank ≤ 100 }
+    requires { rank ≤ max_rank }
     ensures count { result ≡ relation_count rank }
-    ensures limit { result ≤ 5050 }
+    ensures limit { result ≤ relation_count max_rank }
 {
     rank + triangular(rank)
 }
 
 /// 0 + 1 + .. + (n - 1).
 fn triangular(n: usize) -> usize
-    requires { n ≤ 100 }
+    requires { n ≤ max_rank }
     ensures number { result ≡ triangular n }
-    ensures limit { result ≤ 4950 }
+    ensures limit { result ≤ triangular max_rank }
 {
     if n == 0 { 0 } else { n * (n - 1) / 2 }
 }

@@ -57,7 +57,7 @@ pub(crate) fn is_generator(word: &[Syllable], generator: u16) -> bool
 
 /// Sparse words and lists of exponents are two forms of one thing: the list of a normal word gives that word back, a list of
 /// residues gives a normal word that gives the list back, and both have the same letters.
-#[tactic(auto, using(crate::proofs::SyllableLaws::sparse_words_are_exponents))]
+#[tactic(auto, using(crate::proofs::presentations::SyllableLaws::sparse_words_are_exponents))]
 pub fn sparse_words_are_exponents()
     ensures { SparseWordsAreExponents }
 {}

@@ -3,8 +3,8 @@
 use Rattle.std.proofs.Common.{◌≡◌, ℕ, zero, suc, ◌+◌, List, [], ◌∷◌, ◌++◌, length, replicate, refl, ap, sym, ◌∙◌, arith}
 use Rattle.pc_presentation.specs.Rowed.{RowedPresentation}
 use Rattle.pc_presentation.specs.Collection.{State, spelled, add_row, before, push_word, push_configuration}
-use Rattle.pc_presentation.proofs.PushLaws.{push_word-append}
-use Rattle.pc_presentation.proofs.PlainRule.{plain, plain-later}
+use Rattle.pc_presentation.proofs.collecting.PushLaws.{push_word-append}
+use Rattle.pc_presentation.proofs.collecting.PlainRule.{plain, plain-later}
 
 -- exponents in front of a state
 abbrev pub lead : List ℕ → State → State

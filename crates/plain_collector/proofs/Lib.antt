@@ -1,4 +1,3 @@
-pub mod ImageLists
 pub mod Leads
 pub mod PlainSteps
 pub mod Progress

@@ -7,7 +7,7 @@ use Rattle.pq_base.specs.Presentation.{power_side, commutator_side}
 use Rattle.pc_presentation.specs.Rowed.{RowedPresentation, power_row, commutator_row}
 use Rattle.pc_presentation.specs.Collection.{State, spelled, before, push_word, push_configuration, push_power, push_past, raise, plain_push}
 use Rattle.pc_presentation.specs.Tailed.{cleared_after}
-use Rattle.pc_presentation.proofs.PlainRule.{plain, plain-first}
+use Rattle.pc_presentation.proofs.collecting.PlainRule.{plain, plain-first}
 use Rattle.plain_collector.specs.Steps.{with_exponent, raised_by, raised, passed}
 use Rattle.plain_collector.proofs.Leads.{lead, plain-lead, spelled-lead, configuration-lead}
 

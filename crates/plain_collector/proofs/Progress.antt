@@ -11,10 +11,10 @@ use Rattle.pc_presentation.specs.Pcp.{TailedPresentation, IsTailedPresentation}
 use Rattle.pc_presentation.specs.Rowed.{RowedPresentation}
 use Rattle.pc_presentation.specs.Collection.{Configuration, State, spelled, add_row, push_word, push_configuration, plain_push}
 use Rattle.pc_presentation.specs.Tailed.{Element, rowed_presentation, IsElement, with_state, places_of, side_with_tail}
-use Rattle.pc_presentation.proofs.PushLaws.{push_word-append}
-use Rattle.pc_presentation.proofs.PushesLeft.{after}
-use Rattle.pc_presentation.proofs.RowLaws.{row_sum-zeros}
-use Rattle.pc_presentation.proofs.RelationSides.{power_side-numbered, commutator_side-numbered}
+use Rattle.pc_presentation.proofs.collecting.PushLaws.{push_word-append}
+use Rattle.pc_presentation.proofs.quotients.PushesLeft.{after}
+use Rattle.pc_presentation.proofs.rows.RowLaws.{row_sum-zeros}
+use Rattle.pc_presentation.proofs.presentations.RelationSides.{power_side-numbered, commutator_side-numbered}
 use Rattle.plain_collector.specs.Steps.{with_exponent, raised_by, raised, passed}
 use Rattle.plain_collector.proofs.PlainSteps.{cleared_state, plain_push-steps}
 

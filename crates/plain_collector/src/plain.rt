@@ -11,7 +11,7 @@ pub struct Plain;
 
 impl Collect for Plain {
     ghost use Rattle.pc_presentation.specs.Collection.{plain_push};
-    ghost use Rattle.pc_presentation.proofs.CollectorArithmetic.{plain_rule_is_a_meaning};
+    ghost use Rattle.pc_presentation.proofs.quotients.CollectorArithmetic.{plain_rule_is_a_meaning};
 
     ghost meaning = { plain_push };
 

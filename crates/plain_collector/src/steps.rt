@@ -1,6 +1,7 @@
 //! Pushes by the plain rule, on an element in place.
 
 ghost use Rattle.std.specs.Prelude.{◌≡◌, ◌≤◌, ◌<◌, ◌-◌, ℕ, get_or, length, replicate};
+ghost use Rattle.pq_base.specs.Limits.{max_rank};
 ghost use Rattle.pc_presentation.specs.Relation.{IsRelation, IsTail};
 ghost use Rattle.pc_presentation.specs.Pcp.{row_of};
 ghost use Rattle.pc_presentation.specs.Collection.{add_row, push_word, push_configuration, plain_push};
@@ -8,6 +9,7 @@ ghost use Rattle.pc_presentation.specs.Tailed.{rowed_presentation, IsElement, wi
 ghost use Rattle.plain_collector.specs.Steps.{raised, passed};
 
 use pc_presentation::{Elem, Pcp, Relation};
+use pq_base::limits::RANK;
 
 /// Pushes a generator, counted from 1.
 #[cycle(plain)]
@@ -101,11 +103,11 @@ pub(crate) fn add_tail(pcp: &Pcp, at: &mut Elem, tail: Option<u16>)
 }
 
 /// A copy of exponents, with zeros behind them.
-fn saved(exponents: &[u8]) -> [u8; 100]
-    requires { length exponents.now ≤ 100 }
+fn saved(exponents: &[u8]) -> [u8; RANK]
+    requires { length exponents.now ≤ max_rank }
     ensures { (k : ℕ) → get_or result k 0 ≡ get_or exponents.now k 0 }
 {
-    let mut copy = [0; 100];
+    let mut copy = [0; RANK];
     for (k, e) in exponents.iter().enumerate() {
         copy[k] = *e;
     }

@@ -8,7 +8,8 @@ use Rattle.pc_presentation.specs.Tailed.{rowed_presentation}
 use Rattle.pc_presentation.specs.OverlapNumbers.{overlap_of}
 use Rattle.fp_rows.specs.Row.{PrimeRow}
 use Rattle.p_cover.specs.Covers.{cover_presentation}
-use Rattle.consistency.specs.OverlapRows.{left_end, right_end, row_difference}
+use Rattle.fp_rows.specs.Differences.{difference}
+use Rattle.pc_presentation.specs.OverlapRows.{left_end, right_end}
 use Rattle.consistency.proofs.CoverRows.{end-in_cover, exponents-agree, overlap_row-length, cover_row-trivial, either_way, same_exponents}
 use Rattle.consistency.proofs.overlap_rows.row.Goals as goal
 
@@ -28,10 +29,10 @@ returns-clause-difference g c = λ t.
     let push = g.C.Collect.meaning (rowed_presentation T) in
     let o = overlap_of c.args.test in
     ap (λ (r : PrimeRow). r.entries) (c.subtract_if_alike.ensures.difference t)
-    ∙ ap (λ (p : ℕ). row_difference p c.left-left.result.now.state.row c.right-right.result.now.state.row) c.requires.prime
-    ∙ ap (λ (s : State). row_difference T.presentation.prime s.row c.right-right.result.now.state.row)
+    ∙ ap (λ (p : ℕ). difference p c.left-left.result.now.state.row c.right-right.result.now.state.row) c.requires.prime
+    ∙ ap (λ (s : State). difference T.presentation.prime s.row c.right-right.result.now.state.row)
     (end-in_cover left_end g.C.Collect.meaning T c.pcp.result.now o c.left-left.result.now c.two_ways.new.s.left c.left-left.ensures c.pcp.ensures.presentation c.two_ways.ensures.left)
-    ∙ ap (λ (s : State). row_difference T.presentation.prime (left_end (rowed_presentation T) push o).row s.row)
+    ∙ ap (λ (s : State). difference T.presentation.prime (left_end (rowed_presentation T) push o).row s.row)
     (end-in_cover right_end g.C.Collect.meaning T c.pcp.result.now o c.right-right.result.now c.two_ways.new.s.right c.right-right.ensures c.pcp.ensures.presentation c.two_ways.ensures.right)
 
 pub returns-clause-width : goal.returns-clause-width

@@ -1,9 +1,9 @@
 use Rattle.std.proofs.Common.{ℕ, ℤ, List, length, ap, sym, ◌∙◌, subst}
 use Rattle.pq_base.specs.SignedWord.{HasLetters}
 use Rattle.pc_presentation.specs.Tailed.{Element, rowed_presentation}
-use Rattle.pc_presentation.proofs.TailedArithmetic.{meaning_at}
+use Rattle.pc_presentation.proofs.quotients.TailedArithmetic.{meaning_at}
 use Rattle.p_cover.specs.Covers.{cover_presentation}
-use Rattle.epimorphism.proofs.LiftedImages.{lifted-count, lifted-presentation}
+use Rattle.p_cover.proofs.ImageStates.{lifted-count, lifted-presentation}
 use Rattle.epimorphism.proofs.RelatorRows.{Finds, finds-from, found-row_joined, found-killed}
 use Rattle.epimorphism.proofs.relator.relator_row.Given.{Over}
 use Rattle.epimorphism.proofs.relator.relator_row.Goals as goal

@@ -1,5 +1,6 @@
 use Rattle.std.proofs.Common.{◌≤◌, length, ap, arith}
 use Rattle.std.proofs.lemmas.List.{length-map}
+use Rattle.pq_base.specs.Limits.{max_rank}
 use Rattle.pq_base.specs.Presentation.{Presentation}
 use Rattle.p_cover.specs.declared.source.TailSource.{TailSource}
 use Rattle.p_cover.specs.Sources.{source_of}
@@ -10,7 +11,7 @@ pub presentation_with_tails-requires-clause-limit : goal.presentation_with_tails
 presentation_with_tails-requires-clause-limit c =
     let A = c.args.answer.now in
     let rank = ap (λ (P : Presentation). P.rank) c.pcp.ensures.presentation in
-    let limit : A.presentation.rank ≤ 100 = omega (arith, c.rank-rank.ensures.presentation.rank_limit) in
+    let limit : A.presentation.rank ≤ max_rank = omega (arith, c.rank-rank.ensures.presentation.rank_limit) in
     let few = few_in_part A limit c.pcp.ensures.answer.name_limit c.requires in
     let long = ap (length {A = TailSource}) c.deref.ensures.value in
     omega (arith, length-map c.args.sources.items source_of)

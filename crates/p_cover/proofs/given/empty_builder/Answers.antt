@@ -4,7 +4,7 @@ use Rattle.std.proofs.lemmas.Result.{IfOk-weaker}
 use Rattle.pq_base.specs.Prime.{prime_value}
 use Rattle.pq_base.specs.Presentation.{Presentation}
 use Rattle.pq_base.specs.Answer.{Definition as Source}
-use Rattle.pc_presentation.proofs.PcpLaws.{prime_value-offered, offered-positive}
+use Rattle.pq_base.proofs.PrimeLaws.{prime_value-offered, offered-two}
 use Rattle.p_cover.specs.Sources.{source_of}
 use Rattle.p_cover.specs.Given.{IsBegun}
 use Rattle.p_cover.proofs.GivenSteps.{begun-empty}
@@ -25,7 +25,7 @@ returns c =
     IfOk-weaker c.new.result _ (IsBegun A ds 0)
     (λ b e. subst (IsBegun A ds 0) (sym e)
     (begun-empty A ds c.pcp-pcp.ensures.answer.presentation p (length c.args.sources.now) c.deref.result.now
-    (offered-positive p (prime_value-offered c.prime.result))
+    (offered-two p (prime_value-offered c.prime.result))
     (c.prime.ensures ∙ ap (λ (P : Presentation). P.prime) c.pcp-pcp.ensures.presentation)
     (c.deref.ensures.value ∙ c.in_ok-weights.ensures ∙ c.pcp-pcp.ensures.weights)
     (sym (length-map c.args.sources.now source_of)) c.pcp-pcp.ensures.answer.weight_count))

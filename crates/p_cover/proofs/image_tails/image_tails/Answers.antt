@@ -1,7 +1,7 @@
 use Rattle.std.proofs.Common.{ℕ, Option, List, [], ◌∷◌, ◌++◌, map, ap₂, sym, ◌∙◌}
 use Rattle.pq_base.specs.Answer.Definition.{image}
 use Rattle.p_cover.specs.Sources.{source_of, place_in}
-use Rattle.p_cover.proofs.NumberLists.{map_numbers-more}
+use Rattle.pq_base.proofs.NumberLists.{map_numbers-more}
 use Rattle.p_cover.proofs.image_tails.image_tails.Goals as goal
 
 pub loop-k-preserved : goal.loop-k-preserved

@@ -2,7 +2,7 @@ use Rattle.std.proofs.Common.{◌≡◌, ℕ, List, length, drop, ap, sym, ◌�
 use Rattle.std.proofs.lemmas.List.{drop_all}
 use Rattle.pc_presentation.specs.Syllable.{syllable}
 use Rattle.pc_presentation.specs.Tailed.{Element, with_state}
-use Rattle.p_cover.proofs.WrittenWords.{written, element_written, syllable-facts, written-zeros, same_length}
+use Rattle.pc_presentation.proofs.presentations.WrittenWords.{written, element_written, syllable-facts, written-zeros, same_length}
 use Rattle.p_cover.proofs.images.set_exponents.Goals as goal
 
 pub set_exponent-requires-clause-from_one : goal.set_exponent-requires-clause-from_one

@@ -1,5 +1,5 @@
 use Rattle.std.proofs.Common.{◌≡◌, drop}
-use Rattle.p_cover.proofs.WrittenWords.{element_written}
+use Rattle.pc_presentation.proofs.presentations.WrittenWords.{element_written}
 use Rattle.p_cover.proofs.images.set_exponents.Given as goal
 
 -- what is left of the word decides

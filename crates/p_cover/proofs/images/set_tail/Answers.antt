@@ -2,7 +2,7 @@ use Rattle.std.proofs.Common.{ℕ, List, length, ap, sym, ◌∙◌}
 use Rattle.pc_presentation.specs.Pcp.{unit_row, row_of}
 use Rattle.pc_presentation.specs.Rowed.{row_sum}
 use Rattle.pc_presentation.specs.Tailed.{with_state}
-use Rattle.p_cover.proofs.WrittenWords.{zeros_sum-unit}
+use Rattle.pc_presentation.proofs.presentations.WrittenWords.{zeros_sum-unit}
 use Rattle.p_cover.proofs.images.set_tail.Goals as goal
 
 pub returns-in-Some : goal.returns-in-Some

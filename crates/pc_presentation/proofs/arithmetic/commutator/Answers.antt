@@ -2,7 +2,7 @@ use Rattle.std.proofs.Common.{ap, sym, ◌∙◌}
 use Rattle.pc_presentation.specs.Collection.{State}
 use Rattle.pc_presentation.specs.Arithmetic.{product_by}
 use Rattle.pc_presentation.specs.Tailed.{rowed_presentation}
-use Rattle.pc_presentation.proofs.TailedArithmetic.{arithmetic_at}
+use Rattle.pc_presentation.proofs.quotients.TailedArithmetic.{arithmetic_at}
 use Rattle.pc_presentation.proofs.arithmetic.commutator.Goals as goal
 
 pub returns-clause-commutator : goal.returns-clause-commutator

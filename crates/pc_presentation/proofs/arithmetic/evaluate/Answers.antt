@@ -1,5 +1,5 @@
 use Rattle.pc_presentation.specs.Tailed.{rowed_presentation}
-use Rattle.pc_presentation.proofs.TailedArithmetic.{cleared-is_element, value_at-joined}
+use Rattle.pc_presentation.proofs.quotients.TailedArithmetic.{cleared-is_element, value_at-joined}
 use Rattle.pc_presentation.proofs.arithmetic.evaluate.Goals as goal
 
 pub multiply_along-requires-clause-element : goal.multiply_along-requires-clause-element

@@ -1,7 +1,7 @@
 use Rattle.std.proofs.Common.{ap, sym, ◌∙◌}
 use Rattle.pc_presentation.specs.Arithmetic.{product_by}
 use Rattle.pc_presentation.specs.Tailed.{Element, rowed_presentation}
-use Rattle.pc_presentation.proofs.TailedArithmetic.{cleared-identity, cleared-is_element, arithmetic_at}
+use Rattle.pc_presentation.proofs.quotients.TailedArithmetic.{cleared-identity, cleared-is_element, arithmetic_at}
 use Rattle.pc_presentation.proofs.arithmetic.inverse.Goals as goal
 
 pub divide-requires-clause-out : goal.divide-requires-clause-out

@@ -1,6 +1,6 @@
 use Rattle.pc_presentation.specs.Arithmetic.{word_of}
 use Rattle.pc_presentation.specs.Tailed.{rowed_presentation}
-use Rattle.pc_presentation.proofs.TailedArithmetic.{cleared-is_element, power_at-joined}
+use Rattle.pc_presentation.proofs.quotients.TailedArithmetic.{cleared-is_element, power_at-joined}
 use Rattle.pc_presentation.proofs.arithmetic.power.Goals as goal
 
 pub multiply_by_power-requires-clause-element : goal.multiply_by_power-requires-clause-element

@@ -1,5 +1,5 @@
 use Rattle.pc_presentation.specs.Tailed.{rowed_presentation}
-use Rattle.pc_presentation.proofs.TailedArithmetic.{product_at-joined}
+use Rattle.pc_presentation.proofs.quotients.TailedArithmetic.{product_at-joined}
 use Rattle.pc_presentation.proofs.arithmetic.product.Goals as goal
 
 pub returns-clause-joined : goal.returns-clause-joined

@@ -1,7 +1,7 @@
 use Rattle.std.proofs.Common.{sym, subst}
 use Rattle.pc_presentation.specs.Scratch.{Workspace}
 use Rattle.pc_presentation.specs.Tailed.{rowed_presentation, IsElement}
-use Rattle.pc_presentation.proofs.TailedArithmetic.{cleared-is_element, value_at-joined}
+use Rattle.pc_presentation.proofs.quotients.TailedArithmetic.{cleared-is_element, value_at-joined}
 use Rattle.pc_presentation.proofs.arithmetic.value.Goals as goal
 
 pub multiply_along-requires-clause-element : goal.multiply_along-requires-clause-element

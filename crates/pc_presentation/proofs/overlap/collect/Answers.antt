@@ -1,4 +1,4 @@
-use Rattle.pc_presentation.proofs.OverlapWays.{cleared_is_element}
+use Rattle.pc_presentation.proofs.consistent.OverlapWays.{cleared_is_element}
 use Rattle.pc_presentation.proofs.overlap.collect.Goals as goal
 
 pub push_word-requires-clause-element : goal.push_word-requires-clause-element

@@ -7,7 +7,7 @@ use Rattle.pc_presentation.specs.Collection.{Configuration, identity, push_confi
 use Rattle.pc_presentation.specs.Overlaps.{right_way}
 use Rattle.pc_presentation.specs.Tailed.{rowed_presentation, with_state}
 use Rattle.pc_presentation.specs.OverlapNumbers.{AreOverlapNumbers, overlap_of, before_side}
-use Rattle.pc_presentation.proofs.OverlapWays.{triple-right_way, left-right_way}
+use Rattle.pc_presentation.proofs.consistent.OverlapWays.{triple-right_way, left-right_way}
 use Rattle.pc_presentation.proofs.overlap.right_way.Goals as goal
 
 pub returns-in-Triple-clause-collected : goal.returns-in-Triple-clause-collected

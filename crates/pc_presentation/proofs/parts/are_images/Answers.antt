@@ -2,7 +2,7 @@ use Rattle.std.proofs.Common.{◌≡◌, ℕ, [], get_or, sym, ◌∙◌, subst,
 use Rattle.std.proofs.lemmas.Bool.{cases_lt, false≢true}
 use Rattle.pc_presentation.specs.Syllable.{AreSyllables}
 use Rattle.pc_presentation.specs.Parts.{words_of}
-use Rattle.pc_presentation.proofs.PartsLaws.{words_of-at, length-words_of}
+use Rattle.pc_presentation.proofs.presentations.PartsLaws.{words_of-at, length-words_of}
 use Rattle.pc_presentation.proofs.parts.are_images.Goals as goal
 
 pub returns-then-not-are_syllables : goal.returns-then-not-are_syllables

@@ -1,9 +1,9 @@
 use Rattle.std.proofs.Common.{◌≡◌, ◌-◌, ◌+◌, ◌%◌, ℕ, get_or, ap, ap₂, sym, ◌∙◌, arith}
 use Rattle.fp_rows.specs.Row.{PrimeRow}
 use Rattle.pc_presentation.specs.Tailed.{rowed_presentation}
-use Rattle.pc_presentation.proofs.TailedLaws.{rowed_presentation-is}
-use Rattle.pc_presentation.proofs.ElementConditions.{exponent-below_prime, prime-positive}
-use Rattle.pc_presentation.proofs.Division.{division-next, quotient-ended}
+use Rattle.pc_presentation.proofs.quotients.TailedLaws.{rowed_presentation-is}
+use Rattle.pc_presentation.proofs.quotients.ElementConditions.{exponent-below_prime, prime-positive}
+use Rattle.pc_presentation.proofs.quotients.Division.{division-next, quotient-ended}
 use Rattle.pc_presentation.proofs.pushing.divide.Goals as goal
 
 pub difference-times-requires-clause-sum : goal.difference-times-requires-clause-sum
@@ -29,7 +29,7 @@ loop-i-preserved g c =
     let prime = c.prime-prime.ensures in
     let is = c.requires.at.presentation in
     let positive = prime-positive c.args.pcp.now c.args.at.now c.requires.at in
-    let meaning = g.met.C.Collect.reaches (rowed_presentation c.args.pcp.now) (rowed_presentation-is c.args.pcp.now is) (omega arith) in
+    let meaning = g.met.C.Collect.reaches (rowed_presentation c.args.pcp.now) (rowed_presentation-is c.args.pcp.now is) in
     let sum : (get_or c.loop-i.at.state.exponents ((c.loop-i.i + 1) - 1) 0 + c.difference-times.result) % c.args.pcp.now.presentation.prime
     ≡ get_or c.loop-i.out.state.exponents ((c.loop-i.i + 1) - 1) 0 =
     ap₂ (λ (a m : ℕ). (a + c.difference-times.result) % m) (sym c.exponent-in-loop-i.ensures) (sym c.prime-prime.ensures)
@@ -46,7 +46,7 @@ returns-clause-out g c =
     let test = c.loop-i-test.false in
     let is = c.requires.at.presentation in
     let positive = prime-positive c.args.pcp.now c.args.at.now c.requires.at in
-    let meaning = g.met.C.Collect.reaches (rowed_presentation c.args.pcp.now) (rowed_presentation-is c.args.pcp.now is) (omega arith) in
+    let meaning = g.met.C.Collect.reaches (rowed_presentation c.args.pcp.now) (rowed_presentation-is c.args.pcp.now is) in
     (quotient-ended c.args.pcp.now (g.C.Collect.meaning (rowed_presentation c.args.pcp.now)) c.args.at.now c.args.out.now is meaning c.requires.out c.loop-i.at
     c.loop-i.out c.loop-i.i c.loop-i.invariant.1 (omega arith) c.add_scaled_tails.new.self c.loop-i.out.prime c.value.result c.tail.result.now.entries
     c.loop-i.invariant.1.out_element.prime (c.value.ensures.value ∙ c.prime-prime.ensures) (ap (λ (r : PrimeRow). r.entries) c.tail.ensures)
@@ -58,7 +58,7 @@ returns-clause-quotient g c =
     let test = c.loop-i-test.false in
     let is = c.requires.at.presentation in
     let positive = prime-positive c.args.pcp.now c.args.at.now c.requires.at in
-    let meaning = g.met.C.Collect.reaches (rowed_presentation c.args.pcp.now) (rowed_presentation-is c.args.pcp.now is) (omega arith) in
+    let meaning = g.met.C.Collect.reaches (rowed_presentation c.args.pcp.now) (rowed_presentation-is c.args.pcp.now is) in
     (quotient-ended c.args.pcp.now (g.C.Collect.meaning (rowed_presentation c.args.pcp.now)) c.args.at.now c.args.out.now is meaning c.requires.out c.loop-i.at
     c.loop-i.out c.loop-i.i c.loop-i.invariant.1 (omega arith) c.add_scaled_tails.new.self c.loop-i.out.prime c.value.result c.tail.result.now.entries
     c.loop-i.invariant.1.out_element.prime (c.value.ensures.value ∙ c.prime-prime.ensures) (ap (λ (r : PrimeRow). r.entries) c.tail.ensures)

@@ -1,5 +1,5 @@
 use Rattle.pc_presentation.specs.Tailed.{rowed_presentation}
-use Rattle.pc_presentation.proofs.Division.{Divided}
+use Rattle.pc_presentation.proofs.quotients.Division.{Divided}
 use Rattle.pc_presentation.proofs.pushing.divide.Given as goal
 
 abbrev pub invariant-loop-i : goal.invariant-loop-i

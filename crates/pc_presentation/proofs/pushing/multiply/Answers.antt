@@ -1,7 +1,7 @@
 use Rattle.std.proofs.Common.{◌≡◌, ◌<◌, ◌-◌, ◌+◌, ℕ, get_or, length, ap, ◌∙◌, arith}
 use Rattle.fp_rows.specs.Row.{PrimeRow}
 use Rattle.pc_presentation.specs.Tailed.{rowed_presentation}
-use Rattle.pc_presentation.proofs.PushesLeft.{spelled-left, row_added}
+use Rattle.pc_presentation.proofs.quotients.PushesLeft.{spelled-left, row_added}
 use Rattle.pc_presentation.proofs.pushing.multiply.Goals as goal
 
 pub loop-i-preserved : goal.loop-i-preserved

@@ -1,7 +1,7 @@
 use Rattle.std.proofs.Common.{◌≡◌, drop}
 use Rattle.pc_presentation.specs.Collection.{spelled}
 use Rattle.pc_presentation.specs.Tailed.{rowed_presentation, IsElement}
-use Rattle.pc_presentation.proofs.PushesLeft.{after}
+use Rattle.pc_presentation.proofs.quotients.PushesLeft.{after}
 use Rattle.pc_presentation.proofs.pushing.multiply.Given as goal
 
 -- what is left to push decides

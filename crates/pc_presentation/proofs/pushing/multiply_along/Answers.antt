@@ -2,8 +2,8 @@ use Rattle.std.proofs.Common.{◌≡◌, pos, get_or, length, FitsSigned, w32, r
 use Rattle.std.proofs.lemmas.Int.{to_z-of_z}
 use Rattle.pc_presentation.specs.Tailed.{Element, rowed_presentation, IsElement, one_of}
 use Rattle.pc_presentation.specs.ImageElements.{letter_value}
-use Rattle.pq_base.proofs.LetterLaws.{IsLetter-get_or}
-use Rattle.pc_presentation.proofs.ValueSteps.{value-element, letters-left}
+use Rattle.pq_base.proofs.words.LetterLaws.{IsLetter-get_or}
+use Rattle.pc_presentation.proofs.quotients.ValueSteps.{value-element, letters-left}
 use Rattle.pc_presentation.proofs.pushing.multiply_along.Goals as goal
 
 pub value_of-requires-clause-letter : goal.value_of-requires-clause-letter

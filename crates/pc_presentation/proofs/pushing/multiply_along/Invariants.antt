@@ -1,6 +1,6 @@
 use Rattle.std.proofs.Common.{◌≡◌, drop}
 use Rattle.pc_presentation.specs.Tailed.{rowed_presentation, IsElement}
-use Rattle.pc_presentation.proofs.ValueSteps.{evaluated}
+use Rattle.pc_presentation.proofs.quotients.ValueSteps.{evaluated}
 use Rattle.pc_presentation.proofs.pushing.multiply_along.Given as goal
 
 -- what is left of the word decides

@@ -1,11 +1,11 @@
 use Rattle.std.proofs.Common.{◌++◌}
 use Rattle.pq_base.specs.SignedWord.{copies}
-use Rattle.pq_base.proofs.JoinedLaws.{joined-refl}
+use Rattle.pq_base.proofs.words.JoinedLaws.{joined-refl}
 use Rattle.pc_presentation.specs.Rowed.{flat}
 use Rattle.pc_presentation.specs.Arithmetic.{word_of}
 use Rattle.pc_presentation.specs.Tailed.{rowed_presentation}
-use Rattle.pc_presentation.proofs.TailedArithmetic.{product_at-joined}
-use Rattle.pc_presentation.proofs.RepeatedSquares.{square-joined}
+use Rattle.pc_presentation.proofs.quotients.TailedArithmetic.{product_at-joined}
+use Rattle.pc_presentation.proofs.quotients.RepeatedSquares.{square-joined}
 use Rattle.pc_presentation.proofs.pushing.multiply_by_power.Goals as goal
 
 pub loop-rest-init : goal.loop-rest-init

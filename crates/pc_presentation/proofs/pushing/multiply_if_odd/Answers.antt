@@ -2,8 +2,8 @@ use Rattle.std.proofs.Common.{◌%◌, ap, arith}
 use Rattle.pc_presentation.specs.Rowed.{flat}
 use Rattle.pc_presentation.specs.Arithmetic.{word_of}
 use Rattle.pc_presentation.specs.Tailed.{Element, rowed_presentation}
-use Rattle.pc_presentation.proofs.TailedArithmetic.{product_at-joined}
-use Rattle.pc_presentation.proofs.RepeatedSquares.{odd-joined, even-joined}
+use Rattle.pc_presentation.proofs.quotients.TailedArithmetic.{product_at-joined}
+use Rattle.pc_presentation.proofs.quotients.RepeatedSquares.{odd-joined, even-joined}
 use Rattle.pc_presentation.proofs.pushing.multiply_if_odd.Goals as goal
 
 pub returns-then-number-eq1-clause-joined : goal.returns-then-number-eq1-clause-joined

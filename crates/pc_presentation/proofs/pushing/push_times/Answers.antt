@@ -1,6 +1,6 @@
 use Rattle.std.proofs.Common.{◌-◌, ◌∙◌, arith}
 use Rattle.pc_presentation.specs.Tailed.{rowed_presentation}
-use Rattle.pc_presentation.proofs.PushesLeft.{copies-left}
+use Rattle.pc_presentation.proofs.quotients.PushesLeft.{copies-left}
 use Rattle.pc_presentation.proofs.pushing.push_times.Goals as goal
 
 pub loop-preserved : goal.loop-preserved

@@ -1,6 +1,6 @@
 use Rattle.std.proofs.Common.{◌≡◌, ◌-◌, replicate}
 use Rattle.pc_presentation.specs.Tailed.{rowed_presentation, IsElement}
-use Rattle.pc_presentation.proofs.PushesLeft.{after}
+use Rattle.pc_presentation.proofs.quotients.PushesLeft.{after}
 use Rattle.pc_presentation.proofs.pushing.push_times.Given as goal
 
 -- what is left to push decides

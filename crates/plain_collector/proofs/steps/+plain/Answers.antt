@@ -4,10 +4,10 @@ use Rattle.pc_presentation.specs.Relation.{side_start}
 use Rattle.pc_presentation.specs.Pcp.{right_side, row_of}
 use Rattle.pc_presentation.specs.Collection.{add_row, plain_push}
 use Rattle.pc_presentation.specs.Tailed.{Element, rowed_presentation, IsElement, with_state, side_with_tail, places_of}
-use Rattle.pc_presentation.proofs.TailedLaws.{places_of-syllables_of}
-use Rattle.pc_presentation.proofs.ElementConditions.{exponent-below_prime, set-element, cleared-element, prime-positive}
-use Rattle.pc_presentation.proofs.PushesLeft.{after, copies-left, spelled-left}
-use Rattle.pc_presentation.proofs.RelationSides.{side-generators, side-later}
+use Rattle.pc_presentation.proofs.quotients.TailedLaws.{places_of-syllables_of}
+use Rattle.pc_presentation.proofs.quotients.ElementConditions.{exponent-below_prime, set-element, cleared-element, prime-positive}
+use Rattle.pc_presentation.proofs.quotients.PushesLeft.{after, copies-left, spelled-left}
+use Rattle.pc_presentation.proofs.presentations.RelationSides.{side-generators, side-later}
 use Rattle.plain_collector.specs.Steps.{passed}
 use Rattle.plain_collector.proofs.Progress.{syllables-left, no_syllables-left, side-pushed, pass-step, raise-carry, raise-plain, push-made}
 use Rattle.plain_collector.proofs.steps.+plain.Goals as goal

@@ -6,7 +6,7 @@ use Rattle.pc_presentation.specs.Pcp.{right_side}
 use Rattle.pc_presentation.specs.Collection.{spelled, plain_push}
 use Rattle.pc_presentation.specs.Tailed.{rowed_presentation, IsElement, places_of}
 use Rattle.plain_collector.specs.Steps.{passed}
-use Rattle.pc_presentation.proofs.PushesLeft.{after}
+use Rattle.pc_presentation.proofs.quotients.PushesLeft.{after}
 use Rattle.plain_collector.proofs.steps.+plain.Given as goal
 
 abbrev pub decreases-pass : goal.decreases-pass

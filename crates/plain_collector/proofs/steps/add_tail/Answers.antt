@@ -2,7 +2,7 @@ use Rattle.std.proofs.Common.{ℕ, Option, Some, length, ap, sym, ◌∙◌, sub
 use Rattle.pc_presentation.specs.Pcp.{unit_row, row_of}
 use Rattle.pc_presentation.specs.Collection.{add_row}
 use Rattle.pc_presentation.specs.Tailed.{Element, IsElement, with_state}
-use Rattle.pc_presentation.proofs.ElementConditions.{add_tail-element}
+use Rattle.pc_presentation.proofs.quotients.ElementConditions.{add_tail-element}
 use Rattle.plain_collector.proofs.Progress.{no_tail-added}
 use Rattle.plain_collector.proofs.steps.add_tail.Goals as goal
 

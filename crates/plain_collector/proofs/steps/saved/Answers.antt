@@ -1,10 +1,11 @@
 use Rattle.std.proofs.Common.{◌<◌, length, get_or, ◌∙◌, arith, refl}
 use Rattle.std.proofs.lemmas.List.{length-set}
+use Rattle.pq_base.specs.Limits.{max_rank}
 use Rattle.plain_collector.proofs.Progress.{zero-entries, copied-more, zeros-behind}
 use Rattle.plain_collector.proofs.steps.saved.Goals as goal
 
 pub loop-k-init : goal.loop-k-init
-loop-k-init c = (refl, λ j h. absurd (omega arith), λ j h. zero-entries 100 j)
+loop-k-init c = (refl, λ j h. absurd (omega arith), λ j h. zero-entries max_rank j)
 
 pub loop-k-preserved : goal.loop-k-preserved
 loop-k-preserved c =

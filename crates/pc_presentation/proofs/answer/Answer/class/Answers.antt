@@ -1,5 +1,5 @@
 use Rattle.std.proofs.Common.{ℕ, ◌-◌, List, get_or, length, ap, sym, ◌∙◌}
-use Rattle.pc_presentation.proofs.PartsLaws.{last_or_zero-get_or}
+use Rattle.pc_presentation.proofs.presentations.PartsLaws.{last_or_zero-get_or}
 use Rattle.pc_presentation.proofs.answer.Answer.class.Goals as goal
 
 pub returns-in-Some : goal.returns-in-Some

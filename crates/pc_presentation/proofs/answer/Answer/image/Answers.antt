@@ -2,7 +2,7 @@ use Rattle.std.proofs.Common.{◌≡◌, ◌<◌, ◌≤◌, ◌-◌, [], length
 use Rattle.std.proofs.lemmas.List.{length-map}
 use Rattle.pc_presentation.specs.Syllable.{spread}
 use Rattle.pc_presentation.specs.Parts.{words_of}
-use Rattle.pc_presentation.proofs.PartsLaws.{image_at, words_of-at, length-words_of}
+use Rattle.pc_presentation.proofs.presentations.PartsLaws.{image_at, words_of-at, length-words_of}
 use Rattle.pc_presentation.proofs.answer.Answer.image.Goals as goal
 
 pub returns : goal.returns

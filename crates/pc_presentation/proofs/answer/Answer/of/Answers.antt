@@ -1,7 +1,7 @@
 use Rattle.std.proofs.Common.{refl}
 use Rattle.std.proofs.lemmas.Bool.{false≢true}
 use Rattle.pc_presentation.specs.Parts.{words_of, AreParts}
-use Rattle.pc_presentation.proofs.Conditions.{AreParts-tested, AreTested-parts}
+use Rattle.pc_presentation.proofs.presentations.Conditions.{AreParts-tested, AreTested-parts}
 use Rattle.pc_presentation.proofs.answer.Answer.of.Goals as goal
 
 parts : (c : goal.Else-not-are_parts) → AreParts c.args.pcp c.args.names.items c.args.definitions.items (words_of c.args.images.items)

@@ -1,5 +1,5 @@
 use Rattle.pq_base.specs.Prime.{prime_value}
-use Rattle.pc_presentation.proofs.BuilderLaws.{draft-empty}
+use Rattle.pc_presentation.proofs.presentations.BuilderLaws.{draft-empty}
 use Rattle.pc_presentation.proofs.builder.PcpBuilder.new.Goals as goal
 
 pub returns : goal.returns

@@ -1,8 +1,8 @@
 use Rattle.std.proofs.Common.{◌≡◌, ℕ, ap, ◌∙◌}
 use Rattle.pc_presentation.specs.Relation.{side_start, relation_number}
 use Rattle.pc_presentation.specs.Builder.{IsAccepted}
-use Rattle.pc_presentation.proofs.WordTests.{AreSyllables-from_tests}
-use Rattle.pc_presentation.proofs.BuilderLaws.{draft, draft-extended}
+use Rattle.pc_presentation.proofs.presentations.WordTests.{AreSyllables-from_tests}
+use Rattle.pc_presentation.proofs.presentations.BuilderLaws.{draft, draft-extended}
 use Rattle.pc_presentation.proofs.builder.PcpBuilder.relation.Goals as goal
 
 pub put-requires-clause-word : goal.put-requires-clause-word

@@ -2,8 +2,8 @@ use Rattle.std.proofs.Common.{◌≡◌, ℕ, false, get_or, ap, sym, ◌∙◌,
 use Rattle.std.proofs.lemmas.List.{get_or_read}
 use Rattle.pc_presentation.specs.Relation.{IsRelation, entry_at, relation_number}
 use Rattle.pc_presentation.specs.Builder.{flags_of}
-use Rattle.pc_presentation.proofs.RelationTables.{entry_at-per_relation}
-use Rattle.pc_presentation.proofs.RelationNumbers.{relation_number-below}
+use Rattle.pc_presentation.proofs.presentations.RelationTables.{entry_at-per_relation}
+use Rattle.pc_presentation.proofs.presentations.RelationNumbers.{relation_number-below}
 use Rattle.pc_presentation.proofs.builder.PcpBuilder.was_given.Goals as goal
 
 pub returns : goal.returns

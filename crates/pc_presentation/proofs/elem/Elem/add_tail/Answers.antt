@@ -1,7 +1,7 @@
 use Rattle.std.proofs.Common.{ℕ, ◌+◌, ◌%◌, ap, ◌∙◌}
 use Rattle.pq_base.specs.Prime.{prime_value}
 use Rattle.fp_rows.specs.Row.{at_column}
-use Rattle.pc_presentation.proofs.ElementLaws.{add_tail-is}
+use Rattle.pc_presentation.proofs.quotients.ElementLaws.{add_tail-is}
 use Rattle.pc_presentation.proofs.elem.Elem.add_tail.Goals as goal
 
 pub returns : goal.returns

@@ -1,4 +1,4 @@
-use Rattle.pc_presentation.proofs.ElementLaws.{add_tails-is}
+use Rattle.pc_presentation.proofs.quotients.ElementLaws.{add_tails-is}
 use Rattle.pc_presentation.proofs.elem.Elem.add_tails.Goals as goal
 
 pub returns : goal.returns

@@ -1,7 +1,7 @@
 use Rattle.std.proofs.Common.{◌≡◌, ℕ, List, replicate, ap, sym, ◌∙◌, subst}
 use Rattle.pc_presentation.specs.Tailed.{Element, IsElement, one_of}
-use Rattle.pc_presentation.proofs.TailedLaws.{one_of-is}
-use Rattle.pc_presentation.proofs.ElementLaws.{element_with, row_with}
+use Rattle.pc_presentation.proofs.quotients.TailedLaws.{one_of-is}
+use Rattle.pc_presentation.proofs.quotients.ElementLaws.{element_with, row_with}
 use Rattle.pc_presentation.proofs.elem.Elem.one.Goals as goal
 
 pub returns-clause-element : goal.returns-clause-element

@@ -1,5 +1,5 @@
 use Rattle.pq_base.specs.Prime.{prime_value}
-use Rattle.pc_presentation.proofs.PlainLaws.{plain-made}
+use Rattle.pc_presentation.proofs.presentations.PlainLaws.{plain-made}
 use Rattle.pc_presentation.proofs.pcp.Pcp.plain.Goals as goal
 
 pub returns : goal.returns

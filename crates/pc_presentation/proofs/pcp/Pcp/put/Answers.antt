@@ -5,7 +5,7 @@ use Rattle.pc_presentation.specs.Syllable.{AreSyllables}
 use Rattle.pc_presentation.specs.Relation.{IsRelation, IsTail, side_start, relation_number}
 use Rattle.pc_presentation.specs.Store.{AreEntries}
 use Rattle.pc_presentation.specs.Pcp.{tailed_presentation}
-use Rattle.pc_presentation.proofs.PutLaws.{put_entries, put_entries-are, with_relation-tailed}
+use Rattle.pc_presentation.proofs.presentations.PutLaws.{put_entries, put_entries-are, with_relation-tailed}
 use Rattle.pc_presentation.proofs.pcp.Pcp.put.Goals as goal
 
 -- the new entries

@@ -1,5 +1,6 @@
 use Rattle.pq_base.specs.Prime.{prime_value}
-use Rattle.pc_presentation.proofs.PcpLaws.{prime_value-offered, tailed_presentation-is}
+use Rattle.pq_base.proofs.PrimeLaws.{prime_value-offered}
+use Rattle.pc_presentation.proofs.presentations.PcpLaws.{tailed_presentation-is}
 use Rattle.pc_presentation.proofs.pcp.Pcp.rank.Goals as goal
 
 pub returns-clause-presentation : goal.returns-clause-presentation

@@ -2,7 +2,7 @@ use Rattle.std.proofs.Common.{◌≡◌, ℕ, length, get_or, ap, sym, ◌∙◌
 use Rattle.pq_base.specs.Prime.{prime_value}
 use Rattle.pc_presentation.specs.Relation.{IsRelation, relation_number}
 use Rattle.pc_presentation.specs.Store.{blank}
-use Rattle.pc_presentation.proofs.PcpLaws.{tail_of-tailed}
+use Rattle.pc_presentation.proofs.presentations.PcpLaws.{tail_of-tailed}
 use Rattle.pc_presentation.proofs.pcp.Pcp.tail.Goals as goal
 
 pub returns : goal.returns

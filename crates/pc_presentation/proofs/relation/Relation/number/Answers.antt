@@ -2,7 +2,7 @@ use Rattle.std.proofs.Common.{arith, subst}
 use Rattle.pc_presentation.specs.declared.relation.Relation.{Relation}
 use Rattle.pc_presentation.specs.declared.relation.Relation.TheVariants.{Commutator}
 use Rattle.pc_presentation.specs.Relation.{IsRelation}
-use Rattle.pc_presentation.proofs.RelationNumbers.{relation_number-below}
+use Rattle.pc_presentation.proofs.presentations.RelationNumbers.{relation_number-below}
 use Rattle.pc_presentation.proofs.relation.Relation.number.Goals as goal
 
 pub returns-in-Commutator-clause-below : goal.returns-in-Commutator-clause-below

@@ -1,6 +1,6 @@
 use Rattle.std.proofs.Common.{◌≡◌, replicate}
 use Rattle.pc_presentation.specs.Store.{no_place}
-use Rattle.pc_presentation.proofs.StoreLaws.{entries_of-replicate}
+use Rattle.pc_presentation.proofs.presentations.StoreLaws.{entries_of-replicate}
 use Rattle.pc_presentation.proofs.store.Store.new.Goals as goal
 
 pub returns : goal.returns

@@ -1,6 +1,6 @@
 use Rattle.std.proofs.Common.{◌≡◌, ◌++◌, length, ap, arith}
 use Rattle.pc_presentation.specs.declared.syllable.Syllable.{Syllable}
-use Rattle.pc_presentation.proofs.StoreLaws.{entries_of-put}
+use Rattle.pc_presentation.proofs.presentations.StoreLaws.{entries_of-put}
 use Rattle.pc_presentation.proofs.store.Store.put.Goals as goal
 
 pub returns-clause-ok : goal.returns-clause-ok

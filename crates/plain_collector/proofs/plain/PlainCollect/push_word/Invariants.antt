@@ -1,7 +1,7 @@
 use Rattle.std.proofs.Common.{◌≡◌, drop}
 use Rattle.pc_presentation.specs.Collection.{plain_push}
 use Rattle.pc_presentation.specs.Tailed.{rowed_presentation, IsElement, places_of}
-use Rattle.pc_presentation.proofs.PushesLeft.{after}
+use Rattle.pc_presentation.proofs.quotients.PushesLeft.{after}
 use Rattle.plain_collector.proofs.plain.PlainCollect.push_word.Given as goal
 
 -- what is left to push decides

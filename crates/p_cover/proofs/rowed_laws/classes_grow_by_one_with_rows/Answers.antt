@@ -1,6 +1,0 @@
--- The law is the lemma of the same name.
-use Rattle.p_cover.proofs.RowedClass.{classes_grow_by_one_with_rows}
-use Rattle.p_cover.proofs.rowed_laws.classes_grow_by_one_with_rows.Goals as goal
-
-pub returns : goal.returns
-returns c = classes_grow_by_one_with_rows

@@ -1,8 +1,0 @@
-use Rattle.std.proofs.Common.{◌+◌, ◌*◌}
-use Rattle.plain_collector.proofs.by_definition.+definition.Given as goal
-
-abbrev pub decreases-push : goal.decreases-push
-decreases-push l = 2 * l.depth
-
-abbrev pub decreases-push_side : goal.decreases-push_side
-decreases-push_side l = 2 * l.depth + 1

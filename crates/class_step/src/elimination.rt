@@ -1,12 +1,14 @@
 //! Elimination: the kept tails of a cover become generators.
 
-ghost use Rattle.std.specs.Prelude.{◌≡◌, ◌≤◌, length, IfOk};
+ghost use Rattle.std.specs.Prelude.{◌<◌, ◌≡◌, length, IfOk};
+ghost use Rattle.pq_base.specs.Limits.{max_class};
 ghost use Rattle.pq_base.specs.Answer.{class_of};
-ghost use Rattle.class_step.specs.Steps.{KeptMayDefine, IsStep};
+ghost use Rattle.class_step.specs.Steps.{IsStep};
+ghost use Rattle.cover_quotient.specs.Defining.{KeptMayBeKept};
 
-use crate::kept::kept_columns;
-use crate::next_answer::next_answer;
+use crate::kept::{kept_columns, kept_combinations};
 use crate::step::Step;
+use cover_quotient::next_answer::next_answer;
 use fp_echelon::Basis;
 use p_cover::Cover;
 use pq_base::NoMemory;
@@ -18,14 +20,13 @@ use std::alloc::Global;
 pub fn eliminate(alloc: Global, cover: &Cover, basis: &Basis) -> Result<Step, NoMemory>
     requires prime { basis.now.prime ≡ cover.now.answer.presentation.prime }
     requires width { basis.now.width ≡ length cover.now.sources }
-    requires class { class_of cover.now.answer ≤ 59 }
-    requires kept { KeptMayDefine cover.now basis.now.rows }
+    requires class { class_of cover.now.answer < max_class }
+    requires kept { KeptMayBeKept cover.now basis.now.rows }
     ensures { IfOk result (λ step. IsStep cover.now basis.now.rows step) }
 {
     let _width = basis.width();
     let old_rank = cover.pcp().rank();
-    let columns = kept_columns(alloc, basis)?;
-    let kept = columns.as_slice();
+    let kept = kept_columns(alloc, basis)?;
     if kept.is_empty() {
         return Ok(Step::Same);
     }
@@ -33,5 +34,6 @@ pub fn eliminate(alloc: Global, cover: &Cover, basis: &Basis) -> Result<Step, No
     if rank > RANK as u32 {
         return Ok(Step::TooLarge { rank });
     }
-    Ok(Step::Next(next_answer(alloc, cover, basis, kept)?))
+    let combinations = kept_combinations(alloc, basis, kept)?;
+    Ok(Step::Next(next_answer(alloc, cover, &combinations)?))
 }

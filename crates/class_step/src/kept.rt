@@ -1,14 +1,13 @@
 //! The kept columns of a basis, and what becomes of a tail: a combination of the kept ones.
 
-ghost use Rattle.std.specs.Prelude.{◌≡◌, ◌≤◌, ◌+◌, ◌-◌, ◌++◌, ◌∷◌, [], ◌==◌, cond, eqb, map, length, All, IfOk, OnOk};
+ghost use Rattle.std.specs.Prelude.{◌≡◌, ◌≤◌, ◌-◌, ◌++◌, ◌∷◌, [], cond, eqb, map, get_or, length, All, IfOk, OnOk};
+ghost use Rattle.pq_base.specs.Limits.{max_rank};
 ghost use Rattle.fp_rows.specs.Row.{at_column, IsColumn};
 ghost use Rattle.fp_echelon.specs.Reduction.{negative};
 ghost use Rattle.pc_presentation.specs.Syllable.{syllables_of};
-ghost use Rattle.pc_presentation.specs.Relation.{IsTail};
-ghost use Rattle.pc_presentation.specs.Pcp.{row_of};
-ghost use Rattle.class_step.specs.Carried.{carried};
-ghost use Rattle.class_step.specs.Kept.{kept_columns, kept_rows};
+ghost use Rattle.cover_quotient.specs.Kept.{kept_columns, kept_rows, kept_combinations};
 
+use cover_quotient::Combinations;
 use fp_echelon::Basis;
 use fp_rows::Row;
 use pc_presentation::Syllable;
@@ -28,50 +27,56 @@ pub(crate) fn kept_columns(alloc: Global, basis: &Basis) -> Result<Vec<u16>, NoM
     Ok(kept)
 }
 
-/// Puts what becomes of a tail, or of none, at the end of a word: the kept tails are the generators after the first `rank`.
-pub(crate) fn push_tail(
-    word: &mut Vec<Syllable>,
+/// What the tails become: a kept tail itself, and one with a pivot minus the other entries of its row of the basis.
+pub(crate) fn kept_combinations(
+    alloc: Global,
+    basis: &Basis,
+    kept: Vec<u16>,
+) -> Result<Combinations, NoMemory>
+    requires kept { kept.items ≡ kept_columns basis.now.width basis.now.rows }
+    requires limit { length kept.items ≤ max_rank }
+    ensures { IfOk result (λ k. k ≡ kept_combinations basis.now.prime basis.now.width basis.now.rows) }
+{
+    let mut combinations = Combinations::new(alloc, basis.prime(), kept);
+    for t in 0..basis.width() {
+        let word = word_of_tail(alloc, basis, combinations.kept(), t + 1)?;
+        combinations.push(word)?;
+    }
+    Ok(combinations)
+}
+
+/// The word in the kept tails that a tail becomes.
+fn word_of_tail(
+    alloc: Global,
     basis: &Basis,
     kept: &[u16],
-    rank: u16,
-    tail: Option<u16>,
-) -> Result<(), NoMemory>
+    tail: u16,
+) -> Result<Vec<Syllable>, NoMemory>
     requires kept { kept.now ≡ kept_columns basis.now.width basis.now.rows }
-    requires limit { rank + length kept.now ≤ 100 }
-    requires tail { IsTail basis.now.width tail }
-    ensures { OnOk result (word.new.items ≡ word.old.items
-        ++ syllables_of rank (carried basis.now.prime (length kept.now) (kept_rows basis.now.prime basis.now.width basis.now.rows) (row_of basis.now.width tail))) }
+    requires limit { length kept.now ≤ max_rank }
+    requires first { 1 ≤ tail }
+    requires last { tail ≤ basis.now.width }
+    ensures { IfOk result (λ v. v.items ≡ syllables_of 0 (get_or (kept_rows basis.now.prime basis.now.width basis.now.rows) (tail - 1) [])) }
 {
     let _conditions = basis.width();
-    match tail {
-        None => Ok(()),
-        Some(t) => {
-            if basis.is_pivot(t) {
-                push_negated(word, kept, rank, basis.row(t))
-            } else {
-                push_unit(word, kept, rank, t)
-            }
-        }
+    if basis.is_pivot(tail) {
+        negated_entries(alloc, kept, basis.row(tail))
+    } else {
+        unit_word(alloc, kept, tail)
     }
 }
 
-/// Puts minus the entries of a row at the kept columns at the end of a word, as exponents of the generators after the first
-/// `rank`.
-fn push_negated(
-    word: &mut Vec<Syllable>,
-    kept: &[u16],
-    rank: u16,
-    row: &Row,
-) -> Result<(), NoMemory>
-    requires limit { rank + length kept.now ≤ 100 }
+/// Minus the entries of a row at the kept columns.
+fn negated_entries(alloc: Global, kept: &[u16], row: &Row) -> Result<Vec<Syllable>, NoMemory>
+    requires limit { length kept.now ≤ max_rank }
     requires columns { All (IsColumn row.now.entries) kept.now }
-    ensures { OnOk result (word.new.items ≡ word.old.items
-        ++ syllables_of rank (map (λ c. negative row.now.prime (at_column row.now.entries c)) kept.now)) }
+    ensures { IfOk result (λ v. v.items ≡ syllables_of 0 (map (λ c. negative row.now.prime (at_column row.now.entries c)) kept.now)) }
 {
+    let mut word = Vec::new(alloc);
     for k in 0..kept.len() {
-        push_power(word, rank + k as u16 + 1, negated(row, kept[k]))?;
+        push_power(&mut word, k as u16 + 1, negated(row, kept[k]))?;
     }
-    Ok(())
+    Ok(word)
 }
 
 /// Minus an entry of a row.
@@ -83,15 +88,16 @@ fn negated(row: &Row, column: u16) -> u8
     (prime - row.get(column)) % prime
 }
 
-/// Puts the generator of a kept tail at the end of a word.
-fn push_unit(word: &mut Vec<Syllable>, kept: &[u16], rank: u16, tail: u16) -> Result<(), NoMemory>
-    requires limit { rank + length kept.now ≤ 100 }
-    ensures { OnOk result (word.new.items ≡ word.old.items ++ syllables_of rank (map (λ c. cond (eqb tail c) 1 0) kept.now)) }
+/// The kept tail as a word.
+fn unit_word(alloc: Global, kept: &[u16], tail: u16) -> Result<Vec<Syllable>, NoMemory>
+    requires limit { length kept.now ≤ max_rank }
+    ensures { IfOk result (λ v. v.items ≡ syllables_of 0 (map (λ c. cond (eqb tail c) 1 0) kept.now)) }
 {
+    let mut word = Vec::new(alloc);
     for k in 0..kept.len() {
-        push_power(word, rank + k as u16 + 1, unit_entry(tail, kept[k]))?;
+        push_power(&mut word, k as u16 + 1, unit_entry(tail, kept[k]))?;
     }
-    Ok(())
+    Ok(word)
 }
 
 /// 1 at the tail's own column, and 0 elsewhere.

@@ -9,7 +9,7 @@ pub enum Step {
     Next(Answer),
     /// Every tail is in the span: the answer is the same at the next class.
     Same,
-    /// The next answer would have a rank above 100, which is named.
+    /// The next answer would have a rank above `RANK`, which is named.
     TooLarge {
         /// The rank of the answer plus the number of kept tails.
         rank: u32,

@@ -1,10 +1,6 @@
-pub mod Start
-pub mod Restrictions
-pub mod ExactClass
-pub mod Bases
-pub mod Steps
-pub mod Towers
 pub mod TakenRows
 pub mod NamedLaws
+pub mod NamedRows
 pub mod ClassSteps
 pub mod Quotients
+pub mod NamedQuotients

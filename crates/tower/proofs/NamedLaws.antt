@@ -1,25 +1,16 @@
 -- Named relators are words over the generators, and the relators of the presentation that has them alone.
-use Rattle.std.proofs.Common.{◌≡◌, ℕ, ◌-◌, ◌<◌, ℤ, List, [], ◌∷◌, get_or, length, map, refl, ap, sym, ◌∙◌, subst, arith}
+use Rattle.std.proofs.Common.{◌≡◌, ℕ, ◌<◌, ℤ, List, [], ◌∷◌, get_or, length, map, ap, sym, ◌∙◌, subst, arith}
 use Rattle.std.specs.List.{All, Contains}
 use Rattle.std.proofs.lemmas.List.{length-map, get_or-map}
-use Rattle.pq_base.specs.SignedWord.{HasLetters}
-use Rattle.pq_base.specs.LPresentation.{LPresentation, IsLPresentation, IsRelator, AreWords, along}
+use Rattle.pq_base.specs.LPresentation.{LPresentation, IsLPresentation, IsRelator, AreWords}
 use Rattle.pq_base.specs.LPresentation.IsRelator.{fixed_relator, iterated_relator}
-use Rattle.pq_base.proofs.LetterLaws.{HasLetters-get_or}
-use Rattle.pq_base.proofs.AlongLaws.{HasLetters-along}
+use Rattle.derivation_log.proofs.RowSources.{source_word-letters}
 use Rattle.tower.specs.declared.relator.Relator.{Relator}
-use Rattle.tower.specs.declared.relator.Relator.TheVariants.{Fixed, Iterated}
-use Rattle.tower.specs.NamedParts.{named_word, named_part}
-
-pub named-letters : (L : LPresentation) → IsLPresentation L → (r : Relator) → HasLetters (length L.names) (named_word L r)
-named-letters L is (Fixed i) = HasLetters-get_or (length L.names) L.fixed (i - 1) is.fixed_words
-named-letters L is (Iterated i s) =
-    HasLetters-along (length L.names) L.endos s (get_or L.iterated (i - 1) []) is.endo_words
-    (HasLetters-get_or (length L.names) L.iterated (i - 1) is.iterated_words)
+use Rattle.tower.specs.NamedParts.{named_word, named_part, recorded_source}
 
 named-words : (L : LPresentation) → IsLPresentation L → (rs : List Relator) → AreWords (length L.names) (map (named_word L) rs)
 named-words L is [] = tt
-named-words L is (r ∷ rs) = (named-letters L is r, named-words L is rs)
+named-words L is (r ∷ rs) = (source_word-letters L is (recorded_source r), named-words L is rs)
 
 pub named-part_is : (L : LPresentation) → IsLPresentation L → (rs : List Relator) → IsLPresentation (named_part L rs)
 named-part_is L is rs = record { distinct = is.distinct; fixed_words = named-words L is rs; iterated_words = tt; endo_words = tt }

@@ -1,36 +1,27 @@
--- Rows that are inserted one after the other: the span grows, it holds each row, and what holds of the rows holds of those
--- that were added.
-use Rattle.std.proofs.Common.{◌≡◌, ◌⊎◌, ℕ, ◌+◌, ◌<◌, ◌≤◌, ℤ, List, [], ◌∷◌, ◌++◌, get_or, length, take, refl, ap, ap₂, sym, ◌∙◌, subst, arith, inl, inr, append_assoc}
+-- Rows that are inserted one after the other: the span grows and holds a row of each source, and each row that was added is the
+-- row of the source noted for it.
+use Rattle.std.proofs.Common.{◌≡◌, ◌⊎◌, ℕ, suc, ◌+◌, ◌<◌, ◌≤◌, List, [], ◌∷◌, ◌++◌, length, map, refl, ap, ap₂, sym, ◌∙◌, subst, arith, inl, inr, append_assoc, append-nil}
 use Rattle.std.specs.List.{All, Contains}
+use Rattle.std.proofs.lemmas.List.{length-append}
 use Rattle.std.proofs.lemmas.List.Elements.{All-nil, All-push, All-weaker, All-contains, Contains-append_left, Contains-push}
-use Rattle.pq_base.specs.SignedWord.{sub}
-use Rattle.pq_base.specs.LPresentation.{LPresentation, IsRelator, Obeys}
-use Rattle.pq_base.specs.Table.{Table}
-use Rattle.pq_base.specs.Presentation.{word_from}
-use Rattle.pq_base.specs.Joined.{Joined}
-use Rattle.pq_base.proofs.JoinedLaws.{joined-sym}
+use Rattle.pq_base.specs.LPresentation.{LPresentation}
 use Rattle.fp_rows.specs.Rows.{IsRow}
 use Rattle.fp_rows.specs.Row.{PrimeRow}
 use Rattle.fp_echelon.specs.Span.{AreRows, InSpan}
-use Rattle.fp_echelon.specs.Basis.{Echelon, IsBasis}
+use Rattle.fp_echelon.specs.Basis.{Echelon}
 use Rattle.fp_echelon.proofs.SpanLaws.{InSpan-push, InSpan-last}
+use Rattle.fp_echelon.proofs.RankLaws.{rank-le}
+use Rattle.fp_echelon.proofs.BasisSpans.{BasisAt, basis-at}
 use Rattle.pc_presentation.specs.declared.overlap.Overlap.{Overlap}
-use Rattle.pc_presentation.specs.OverlapNumbers.{AreOverlapNumbers, overlap_of}
-use Rattle.pc_presentation.specs.Overlaps.{Overlap as OverlapOfPlaces}
-use Rattle.pc_presentation.specs.Rowed.{flat}
+use Rattle.pc_presentation.specs.OverlapNumbers.{AreOverlapNumbers}
 use Rattle.pc_presentation.specs.Collection.{State}
-use Rattle.pc_presentation.proofs.OverlapNumberLaws.{numbered, numbered-is, overlap_of-numbered}
-use Rattle.p_cover.specs.RowedAnswer.{rowed, rowed_images, tails_word}
-use Rattle.p_cover.specs.Covers.{CoverOf, rowed_cover}
+use Rattle.p_cover.specs.Covers.{CoverOf}
 use Rattle.consistency.specs.AllOverlaps.{all_overlaps}
-use Rattle.consistency.specs.OverlapRows.{overlap_row}
 use Rattle.consistency.proofs.OverlapList.{each_overlap_once}
-use Rattle.class_step.specs.Fits.{IsJustified}
-use Rattle.tower.specs.declared.relator.Relator.{Relator}
-use Rattle.tower.specs.NamedParts.{named_word}
-use Rattle.tower.specs.Stages.{HasRowOf, IsTrusted}
-use Rattle.tower.specs.StepRows.{StepRows, AreOver, HasInserted, HasTaken, HasTakenWord, HaveTakenOverlaps, HaveTakenRelators}
-use Rattle.tower.proofs.Bases.{BasisAt, basis-at}
+use Rattle.derivation_log.specs.declared.source.RowSource.{RowSource}
+use Rattle.derivation_log.specs.RowSources.{IsRowOf, AreRowsOf}
+use Rattle.derivation_log.proofs.RowSources.{rows_of-push}
+use Rattle.tower.specs.StepRows.{StepRows, AreOver, HasInserted, HasSpannedRow, HaveTaken, HaveTakenMore}
 
 last-row : (p q : ℕ) (rows : List (List ℕ)) (x : List ℕ) → AreRows p q (rows ++ x ∷ []) → IsRow p q x
 last-row p q [] x h = h.0
@@ -47,6 +38,23 @@ next-overlap n os left rest o all step =
     ((each_overlap_once n).members o).0
     (subst (λ (l : List Overlap). Contains l o) (append_assoc os (o ∷ []) rest ∙ ap (λ (l : List Overlap). os ++ l) (sym step) ∙ all) here)
 
+-- what holds of all sources holds of the one that comes next
+pub next-source : (P : RowSource → Type 0) (sources yielded left rest : List RowSource) (s : RowSource) → All P sources
+    → yielded ++ left ≡ sources → left ≡ s ∷ rest → P s
+next-source P sources yielded left rest s all whole step =
+    let here : Contains ((yielded ++ s ∷ []) ++ rest) s = Contains-append_left (yielded ++ s ∷ []) rest s (Contains-push yielded s) in
+    All-contains P sources s all
+    (subst (λ (l : List RowSource). Contains l s) (append_assoc yielded (s ∷ []) rest ∙ ap (λ (l : List RowSource). yielded ++ l) (sym step) ∙ whole) here)
+
+-- there is room for one more row
+pub over-spare : (C : CoverOf) (R : StepRows) → AreOver C R → 1 ≤ R.basis.spare
+over-spare C R over =
+    let rank = rank-le R.basis.prime R.basis.width R.basis.rows over.basis.reduced in
+    let count = over.basis.count in
+    let width = over.width in
+    let spare = over.spare in
+    omega arith
+
 module _ (C : CoverOf) where
   abbrev p : ℕ
   p = C.answer.presentation.prime
@@ -54,113 +62,128 @@ module _ (C : CoverOf) where
   abbrev q : ℕ
   q = length C.sources
 
-  -- an insertion of the row that was found
-  pub taken-from : (R M S : StepRows) (x : List ℕ) → AreOver C R → M.basis ≡ R.basis → M.row.prime ≡ C.answer.presentation.prime
-      → length M.row.entries ≡ length C.sources → M.row.entries ≡ x → HasInserted M S → HasTaken C R S x
-  taken-from R M S x over same prime width entries ins =
-      let base_prime : M.basis.prime ≡ p = ap (λ (B : Echelon). B.prime) same ∙ over.prime in
-      let base_width : M.basis.width ≡ q = ap (λ (B : Echelon). B.width) same ∙ over.width in
-      let new_prime : S.basis.prime ≡ p = ins.prime ∙ base_prime in
-      let new_width : S.basis.width ≡ q = ins.width ∙ base_width in
-      let at : BasisAt p q S.basis.added S.basis.rows = basis-at S.basis p q new_prime new_width ins.basis in
-      let old : BasisAt p q R.basis.added R.basis.rows = basis-at R.basis p q over.prime over.width over.basis in
-      let two : 2 ≤ p = old.two in
-      let is_over : AreOver C S = record {
-        basis = ins.basis;
-        prime = new_prime;
-        width = new_width;
-        noted = ins.noted;
-        row_prime = ap (λ (r : PrimeRow). r.prime) ins.row ∙ prime;
-        row_width = ap (λ (r : PrimeRow). length r.entries) ins.row ∙ width;
-      } in
-      elim ins.takes [
+  -- what an insertion of the row that was found makes of rows over the cover
+  module _ (R M S : StepRows) (source : RowSource) (over : AreOver C R) (same : M.basis ≡ R.basis) (noted : M.noted ≡ R.noted) (room : M.room ≡ R.room)
+      (prime : M.row.prime ≡ C.answer.presentation.prime) (width : length M.row.entries ≡ length C.sources) (ins : HasInserted M S source) where
+    base_prime : M.basis.prime ≡ p
+    base_prime = ap (λ (B : Echelon). B.prime) same ∙ over.prime
+
+    base_width : M.basis.width ≡ q
+    base_width = ap (λ (B : Echelon). B.width) same ∙ over.width
+
+    new_count : length S.noted ≡ length S.basis.added
+    new_count = elim ins.takes [
+      | inl h ↦
+          ap (λ (ss : List RowSource). length ss) (h.2 ∙ noted) ∙ over.noted
+          ∙ ap (λ (xs : List (List ℕ)). length xs) (sym (h.1 ∙ ap (λ (B : Echelon). B.added) same))
+      | inr h ↦
+          ap (λ (ss : List RowSource). length ss) (h.1 ∙ ap (λ (ss : List RowSource). ss ++ source ∷ []) noted)
+          ∙ length-append R.noted (source ∷ [])
+          ∙ ap (λ (n : ℕ). n + 1) over.noted
+          ∙ sym (length-append R.basis.added (M.row.entries ∷ []))
+          ∙ ap (λ (xs : List (List ℕ)). length xs) (sym (h.0 ∙ ap (λ (B : Echelon). B.added ++ M.row.entries ∷ []) same))
+    ]
+
+    pub over-inserted : AreOver C S
+    over-inserted =
+        let wide = over.room in
+        let wider = ins.room in
+        let still = room in
+        record {
+          basis = ins.basis;
+          prime = ins.prime ∙ base_prime;
+          width = ins.width ∙ base_width;
+          noted = new_count;
+          spare = ins.spare ∙ ap (λ (B : Echelon). B.spare + length B.added) same ∙ over.spare;
+          room = omega arith;
+          row_prime = ap (λ (r : PrimeRow). r.prime) ins.row ∙ prime;
+          row_width = ap (λ (r : PrimeRow). length r.entries) ins.row ∙ width;
+        }
+
+    old : BasisAt p q R.basis.added R.basis.rows
+    old = basis-at R.basis p q over.prime over.width over.basis
+
+    new : BasisAt p q S.basis.added S.basis.rows
+    new = basis-at S.basis p q (ins.prime ∙ base_prime) (ins.width ∙ base_width) ins.basis
+
+    row_added : S.basis.added ≡ R.basis.added ++ M.row.entries ∷ [] → IsRow p q M.row.entries
+    row_added eq = last-row p q R.basis.added M.row.entries (subst (AreRows p q) eq new.are)
+
+    span_kept : (y : List ℕ) → InSpan p q R.basis.added y → InSpan p q S.basis.added y
+    span_kept y k =
+        let two : 2 ≤ p = old.two in
+        elim ins.takes [
+          | inl h ↦ subst (λ (rows : List (List ℕ)). InSpan p q rows y) (sym (h.1 ∙ ap (λ (B : Echelon). B.added) same)) k
+          | inr h ↦
+              let eq : S.basis.added ≡ R.basis.added ++ M.row.entries ∷ [] = h.0 ∙ ap (λ (B : Echelon). B.added ++ M.row.entries ∷ []) same in
+              subst (λ (rows : List (List ℕ)). InSpan p q rows y) (sym eq) (InSpan-push p q R.basis.added M.row.entries y (omega arith) old.are (row_added eq) k)
+        ]
+
+    span_new : InSpan p q S.basis.added M.row.entries
+    span_new =
+        let two : 2 ≤ p = old.two in
+        elim ins.takes [
+          | inl h ↦
+              subst (λ (rows : List (List ℕ)). InSpan p q rows M.row.entries) (sym h.1)
+              (span-at M.basis p q M.row.entries base_prime base_width h.0)
+          | inr h ↦
+              let eq : S.basis.added ≡ R.basis.added ++ M.row.entries ∷ [] = h.0 ∙ ap (λ (B : Echelon). B.added ++ M.row.entries ∷ []) same in
+              subst (λ (rows : List (List ℕ)). InSpan p q rows M.row.entries) (sym eq) (InSpan-last p q R.basis.added M.row.entries (omega arith) old.are (row_added eq))
+        ]
+
+    module _ (L : LPresentation) (push : State → ℕ → State) (is : IsRowOf L C push source M.row.entries) where
+      rows_more : AreRowsOf L C push R.noted R.basis.added → AreRowsOf L C push S.noted S.basis.added
+      rows_more rows = elim ins.takes [
         | inl h ↦
-            let eq : S.basis.added ≡ R.basis.added = h.1 ∙ ap (λ (B : Echelon). B.added) same in
-            let span : InSpan p q M.basis.added M.row.entries = span-at M.basis p q M.row.entries base_prime base_width h.0 in
-            let there : InSpan p q M.basis.added x = subst (λ (y : List ℕ). InSpan p q M.basis.added y) entries span in
-            record {
-              over = is_over;
-              span = subst (λ (rows : List (List ℕ)). InSpan p q rows x) (sym h.1) there;
-              kept = λ y k. subst (λ (rows : List (List ℕ)). InSpan p q rows y) (sym eq) k;
-              added = inl eq;
-            }
-        | inr e ↦
-            let eq : S.basis.added ≡ R.basis.added ++ x ∷ [] =
-            e ∙ ap₂ (λ (rows : List (List ℕ)) (y : List ℕ). rows ++ y ∷ []) (ap (λ (B : Echelon). B.added) same) entries in
-            let row : IsRow p q x = last-row p q R.basis.added x (subst (AreRows p q) eq at.are) in
-            record {
-              over = is_over;
-              span = subst (λ (rows : List (List ℕ)). InSpan p q rows x) (sym eq) (InSpan-last p q R.basis.added x (omega arith) old.are row);
-              kept = λ y k. subst (λ (rows : List (List ℕ)). InSpan p q rows y) (sym eq) (InSpan-push p q R.basis.added x y (omega arith) old.are row k);
-              added = inr eq;
-            }
+            subst (λ (ss : List RowSource). AreRowsOf L C push ss S.basis.added) (sym (h.2 ∙ noted))
+            (subst (AreRowsOf L C push R.noted) (sym (h.1 ∙ ap (λ (B : Echelon). B.added) same)) rows)
+        | inr h ↦
+            subst (λ (ss : List RowSource). AreRowsOf L C push ss S.basis.added) (sym (h.1 ∙ ap (λ (ss : List RowSource). ss ++ source ∷ []) noted))
+            (subst (AreRowsOf L C push (R.noted ++ source ∷ [])) (sym (h.0 ∙ ap (λ (B : Echelon). B.added ++ M.row.entries ∷ []) same))
+            (rows_of-push L C push R.noted R.basis.added source M.row.entries rows is))
       ]
 
-  pub all-taken : (Q : List ℕ → Type 0) (R S : StepRows) (x : List ℕ) → HasTaken C R S x → All Q R.basis.added → Q x → All Q S.basis.added
-  all-taken Q R S x taken all new = elim taken.added [
-    | inl e ↦ subst (All Q) (sym e) all
-    | inr e ↦ subst (All Q) (sym e) (All-push Q R.basis.added x all new)
-  ]
+      noted_more : (sources : List RowSource) → All (Contains sources) R.noted → All (Contains (sources ++ source ∷ [])) S.noted
+      noted_more sources all =
+          let before : All (Contains (sources ++ source ∷ [])) R.noted =
+          All-weaker (Contains sources) (Contains (sources ++ source ∷ [])) (λ s h. Contains-append_left sources (source ∷ []) s h) R.noted all in
+          elim ins.takes [
+            | inl h ↦ subst (All (Contains (sources ++ source ∷ []))) (sym (h.2 ∙ noted)) before
+            | inr h ↦
+                subst (All (Contains (sources ++ source ∷ []))) (sym (h.1 ∙ ap (λ (ss : List RowSource). ss ++ source ∷ []) noted))
+                (All-push (Contains (sources ++ source ∷ [])) R.noted source before (Contains-push sources source))
+          ]
 
-  module _ (push : State → ℕ → State) where
-    abbrev row_of_overlap : Overlap → List ℕ
-    row_of_overlap o = overlap_row (rowed (rowed_cover C)) push (overlap_of o)
+      pub taken-inserted : HaveTakenMore L C push (source ∷ []) R S
+      taken-inserted sources taken = record {
+        rows = rows_more taken.rows;
+        noted = noted_more sources taken.noted;
+        spanned =
+            All-push (HasSpannedRow L C push S.basis.added) sources source
+            (All-weaker (HasSpannedRow L C push R.basis.added) (HasSpannedRow L C push S.basis.added)
+            (λ s h. record { row = h.row; is = h.is; span = span_kept h.row h.span }) sources taken.spanned)
+            (record { row = M.row.entries; is = is; span = span_new });
+      }
 
-    -- some overlaps
-    pub record TestedSoFar (R S : StepRows) (os : List Overlap) : Type 0 where
-      pub over : AreOver C S
-      pub rows : All (λ (o : Overlap). InSpan C.answer.presentation.prime (length C.sources) S.basis.added (overlap_row (rowed (rowed_cover C)) push (overlap_of o))) os
-      pub trusted : (L : LPresentation) → All (IsTrusted L C) R.basis.added → All (IsTrusted L C) S.basis.added
-
-    pub tested-none : (R : StepRows) → AreOver C R → TestedSoFar R R []
-    tested-none R over = record { over = over; rows = All-nil _; trusted = λ L all. all }
-
-    pub tested-more : (R S T : StepRows) (os : List Overlap) (o : Overlap) → TestedSoFar R S os
-        → HasTaken C S T (overlap_row (rowed (rowed_cover C)) push (overlap_of o))
-        → Joined (flat (rowed (rowed_cover C))) (tails_word (rowed_cover C) (overlap_row (rowed (rowed_cover C)) push (overlap_of o))) []
-        → TestedSoFar R T (os ++ o ∷ [])
-    tested-more R S T os o so_far taken trivial = record {
-      over = taken.over;
+  module _ (L : LPresentation) (push : State → ℕ → State) where
+    pub taken-none : (R : StepRows) → R.basis.added ≡ [] → R.noted ≡ [] → HaveTaken L C push [] R
+    taken-none R none no_source = record {
       rows =
-          All-push (λ (e : Overlap). InSpan p q T.basis.added (row_of_overlap e)) os o
-          (All-weaker (λ (e : Overlap). InSpan p q S.basis.added (row_of_overlap e)) (λ (e : Overlap). InSpan p q T.basis.added (row_of_overlap e))
-          (λ e h. taken.kept (row_of_overlap e) h) os so_far.rows)
-          taken.span;
-      trusted = λ L all. all-taken (IsTrusted L C) S T (row_of_overlap o) taken (so_far.trusted L all) (λ T' f obeys. inl trivial);
+          subst (λ (ss : List RowSource). AreRowsOf L C push ss R.basis.added) (sym no_source) (subst (AreRowsOf L C push []) (sym none) tt);
+      noted = subst (All (Contains [])) (sym no_source) (All-nil _);
+      spanned = All-nil _;
     }
 
-    pub tested-all : (R S : StepRows) → TestedSoFar R S (all_overlaps C.answer.presentation.rank) → HaveTakenOverlaps C push R S
-    tested-all R S so_far = record {
-      over = so_far.over;
-      overlaps = λ o h.
-          let n : ℕ = C.answer.presentation.rank in
-          subst (λ (e : OverlapOfPlaces). InSpan p q S.basis.added (overlap_row (rowed (rowed_cover C)) push e)) (overlap_of-numbered o)
-          (All-contains (λ (e : Overlap). InSpan p q S.basis.added (row_of_overlap e)) (all_overlaps n) (numbered o) so_far.rows
-          (((each_overlap_once n).members (numbered o)).1 (numbered-is n o h)));
-      trusted = so_far.trusted;
-    }
+    pub taken-nothing : (R : StepRows) → HaveTakenMore L C push [] R R
+    taken-nothing R sources taken = subst (λ (ss : List RowSource). HaveTaken L C push ss R) (sym (append-nil sources)) taken
 
-  module _ (L : LPresentation) where
-    -- some relators
-    pub relators-none : (R : StepRows) → AreOver C R → HaveTakenRelators C L [] R R
-    relators-none R over = record { over = over; kept = λ y h. h; rows = All-nil _; trusted = λ M are all. all }
+    pub taken-append : (R S T : StepRows) (ss ts : List RowSource) → HaveTakenMore L C push ss R S → HaveTakenMore L C push ts S T
+        → HaveTakenMore L C push (ss ++ ts) R T
+    taken-append R S T ss ts first second sources taken =
+        subst (λ (us : List RowSource). HaveTaken L C push us T) (append_assoc sources ss ts) (second (sources ++ ss) (first sources taken))
 
-    pub relators-more : (R S T : StepRows) (rs : List Relator) (r : Relator) → HaveTakenRelators C L rs R S
-        → HasTakenWord C S T (named_word L r) → HaveTakenRelators C L (rs ++ r ∷ []) R T
-    relators-more R S T rs r so_far taken = record {
-      over = taken.taken.over;
-      kept = λ y h. taken.taken.kept y (so_far.kept y h);
-      rows =
-          All-push (λ (e : Relator). HasRowOf C T.basis.added (named_word L e)) rs r
-          (All-weaker (λ (e : Relator). HasRowOf C S.basis.added (named_word L e)) (λ (e : Relator). HasRowOf C T.basis.added (named_word L e))
-          (λ e h. record { row = h.row; span = taken.taken.kept h.row h.span; joined = h.joined }) rs so_far.rows)
-          (record { row = taken.row; span = taken.taken.span; joined = taken.joined });
-      trusted = λ M are all.
-          all-taken (IsTrusted M C) S T taken.row taken.taken
-          (so_far.trusted M (λ e h. are e (Contains-append_left rs (r ∷ []) e h)) all)
-          (λ T' f obeys. inr (record {
-            word = named_word L r;
-            joined = joined-sym taken.joined;
-            zero = obeys.kills (named_word L r) (are r (Contains-push rs r));
-          }));
-    }
+    -- from no rows
+    pub taken-from_none : (R S T : StepRows) (ss ts us : List RowSource) → R.basis.added ≡ [] → R.noted ≡ [] → HaveTakenMore L C push ss R S
+        → HaveTakenMore L C push ts S T → ts ≡ us → HaveTaken L C push (ss ++ us) T
+    taken-from_none R S T ss ts us none no_source first second same =
+        subst (λ (vs : List RowSource). HaveTaken L C push (ss ++ vs) T) same (second ss (first [] (taken-none R none no_source)))

@@ -1,5 +1,6 @@
 pub mod NamedParts
-pub mod Stages
-pub mod StageLaws
 pub mod StepRows
 pub mod Answers
+pub mod QuotientLaws
+pub mod LoggedSteps
+pub mod Refusals

@@ -1,35 +1,51 @@
 -- Relators by number, and the presentation whose relators are named ones.
 -- From: the presentations by finitely many relators that lead to the quotients of an L-presentation.
-use Rattle.std.specs.Prelude.{◌≡◌, ◌≤◌, ◌-◌, ℕ, ℤ, List, [], get_or, length, map}
-use Rattle.std.specs.List.{All}
+use Rattle.std.specs.Prelude.{◌≡◌, ◌≤◌, ℕ, ℤ, List, [], ◌++◌, length, map}
+use Rattle.std.specs.List.{All, Contains}
 use Rattle.pq_base.specs.SignedWord.{sub}
-use Rattle.pq_base.specs.LPresentation.{LPresentation, along}
+use Rattle.pq_base.specs.LPresentation.{LPresentation}
 use Rattle.pq_base.specs.Joined.{Joined}
 use Rattle.pq_base.specs.Answer.{Answer, image_words}
+use Rattle.pq_base.specs.Canonical.{numbers_from}
 use Rattle.derivation_log.specs.declared.source.RowSource.{RowSource}
-use Rattle.derivation_log.specs.declared.source.RowSource.TheVariants.{Fixed as FixedSource, Iterated as IteratedSource}
+use Rattle.derivation_log.specs.declared.source.RowSource.TheVariants.{Test as TestSource, Fixed as FixedSource, Iterated as IteratedSource}
+use Rattle.derivation_log.specs.RowSources.{source_word}
 use Rattle.tower.specs.declared.relator.Relator.{Relator}
 use Rattle.tower.specs.declared.relator.Relator.TheVariants.{Fixed, Iterated}
-
--- the word of a relator
-abbrev pub named_word : LPresentation → Relator → List ℤ
-named_word L (Fixed i) = get_or L.fixed (i - 1) []
-named_word L (Iterated i s) = along L.endos s (get_or L.iterated (i - 1) [])
-
--- a relator of the presentation that is carried along no endomorphism
-abbrev pub IsNamed : LPresentation → Relator → Type 0
-IsNamed L (Fixed i) = (1 ≤ i) × (i ≤ length L.fixed)
-IsNamed L (Iterated i s) = (1 ≤ i) × (i ≤ length L.iterated) × (s ≡ [])
-
--- the generators with the named relators alone
-abbrev pub named_part : LPresentation → List Relator → LPresentation
-named_part L relators = record { names = L.names; fixed = map (named_word L) relators; iterated = []; endos = [] }
 
 -- a relator as what a row comes from
 abbrev pub recorded_source : Relator → RowSource
 recorded_source (Fixed i) = FixedSource i
 recorded_source (Iterated i s) = IteratedSource i s
 
+-- the word of a relator
+abbrev pub named_word : LPresentation → Relator → List ℤ
+named_word L r = source_word L (recorded_source r)
+
+-- a relator of the presentation that is carried along no endomorphism
+abbrev pub IsNamedSource : LPresentation → RowSource → Type 0
+IsNamedSource L (TestSource o) = ⊥
+IsNamedSource L (FixedSource i) = (1 ≤ i) × (i ≤ length L.fixed)
+IsNamedSource L (IteratedSource i s) = (1 ≤ i) × (i ≤ length L.iterated) × (s ≡ [])
+
+abbrev pub IsNamed : LPresentation → Relator → Type 0
+IsNamed L r = IsNamedSource L (recorded_source r)
+
+-- the list names each of them, and nothing else
+pub record NamesAll (L : LPresentation) (relators : List Relator) : Type 0 where
+  pub only : All (IsNamed L) relators
+  pub every : (r : Relator) → IsNamed L r → Contains relators r
+
+abbrev pub all_named : LPresentation → List Relator
+all_named L = map Fixed (numbers_from 1 (length L.fixed)) ++ map (λ (i : ℕ). Iterated i []) (numbers_from 1 (length L.iterated))
+
+-- the generators with the named relators alone
+abbrev pub named_part : LPresentation → List Relator → LPresentation
+named_part L relators = record { names = L.names; fixed = map (named_word L) relators; iterated = []; endos = [] }
+
 -- the relator is trivial in an answer
+abbrev pub DiesIn : LPresentation → Answer → RowSource → Type 0
+DiesIn L A s = Joined A.presentation (sub (source_word L s) (image_words A)) []
+
 abbrev pub Dies : LPresentation → Answer → Relator → Type 0
-Dies L A r = Joined A.presentation (sub (named_word L r) (image_words A)) []
+Dies L A r = DiesIn L A (recorded_source r)

@@ -1,12 +1,16 @@
-//! The tower: the largest quotients of a presented group, class after class. `laws` states what the stages of a tower are, how one
-//! class leads from stage to stage, and why stages are largest quotients. The rows of one class, of its overlaps and of relators by
-//! number, are found and inserted one after the other.
+//! The tower: the largest quotients of a presented group, class after class. The rows of one class, of its overlaps and of relators
+//! by number, are found and inserted one after the other.
 #![tactic(auto)]
 
+mod classes;
 pub mod laws;
 mod overlaps;
+pub mod refusal;
 pub mod relator;
 mod relators;
 mod rows;
+pub mod runs;
 
+pub use refusal::TowerRefusal;
 pub use relator::Relator;
+pub use runs::finite;

@@ -1,7 +1,8 @@
 //! Relators by number.
 
-ghost use Rattle.std.specs.Prelude.{◌≡◌, IfOk};
-ghost use Rattle.tower.specs.NamedParts.{IsNamed, named_word, recorded_source};
+ghost use Rattle.std.specs.Prelude.{◌≡◌, map, IfOk};
+ghost use Rattle.derivation_log.specs.RowSources.{source_word};
+ghost use Rattle.tower.specs.NamedParts.{IsNamedSource, recorded_source};
 
 use derivation_log::RowSource;
 use free_words::Word;
@@ -19,17 +20,6 @@ pub enum Relator {
 }
 
 impl Relator {
-    /// The word of a relator that is carried along no endomorphism.
-    pub fn word<'a>(&self, pres: &'a LPres) -> &'a Word
-        requires { IsNamed pres.now self.now }
-        ensures { result.now ≡ named_word pres.now self.now }
-    {
-        match self {
-            Relator::Fixed(number) => &pres.fixed()[*number as usize - 1],
-            Relator::Iterated(number, _path) => &pres.iterated()[*number as usize - 1],
-        }
-    }
-
     /// What a row of the relator comes from.
     pub fn source(&self, alloc: Global) -> Result<RowSource, NoMemory>
         ensures { IfOk result (λ source. source ≡ recorded_source self.now) }
@@ -41,5 +31,28 @@ impl Relator {
                 Ok(RowSource::Iterated(*number, path))
             }
         }
+    }
+}
+
+/// What the rows of relators come from.
+pub(crate) fn sources(alloc: Global, relators: &[Relator]) -> Result<Vec<RowSource>, NoMemory>
+    ensures { IfOk result (λ sources. sources.items ≡ map recorded_source relators.now) }
+{
+    let mut sources = Vec::new(alloc);
+    for relator in relators {
+        sources.push(relator.source(alloc)?)?;
+    }
+    Ok(sources)
+}
+
+/// The word of a relator that is carried along no endomorphism.
+pub(crate) fn word<'a>(source: &RowSource, pres: &'a LPres) -> &'a Word
+    requires { IsNamedSource pres.now source.now }
+    ensures { result.now ≡ source_word pres.now source.now }
+{
+    match source {
+        RowSource::Test(_overlap) => unreachable!(),
+        RowSource::Fixed(number) => &pres.fixed()[*number as usize - 1],
+        RowSource::Iterated(number, _path) => &pres.iterated()[*number as usize - 1],
     }
 }

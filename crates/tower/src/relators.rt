@@ -1,77 +1,74 @@
 //! The rows of the relators of a step.
 
-ghost use Rattle.std.specs.Prelude.{◌≡◌, [], OnOk};
+ghost use Rattle.std.specs.Prelude.{◌≡◌, [], ◌∷◌};
 ghost use Rattle.std.specs.List.{All};
-ghost use Rattle.pq_base.specs.SignedWord.{sub};
-ghost use Rattle.pq_base.specs.Joined.{Joined, IsConsistent};
-ghost use Rattle.pq_base.specs.Answer.{image_words};
+ghost use Rattle.pq_base.specs.Joined.{IsConsistent};
 ghost use Rattle.pc_presentation.specs.Scratch.{IsScratch};
 ghost use Rattle.pc_presentation.specs.Tailed.{rowed_presentation};
 ghost use Rattle.p_cover.specs.Covers.{cover_presentation};
 ghost use Rattle.p_cover.specs.Images.{AreLifted};
-ghost use Rattle.tower.specs.NamedParts.{IsNamed, named_word, Dies};
-ghost use Rattle.tower.specs.StepRows.{AreOver, HasTakenWord, HaveTakenRelators};
+ghost use Rattle.tower.specs.NamedParts.{IsNamedSource, DiesIn};
+ghost use Rattle.tower.specs.StepRows.{AreOver, HaveTakenMore};
 
-use crate::relator::Relator;
+use crate::relator::word;
 use crate::rows::Rows;
+use derivation_log::RowSource;
 use epimorphism::relator_row;
 use lpres_reader::LPres;
 use p_cover::{Cover, Images};
 use pc_presentation::{Collect, Scratch};
-use pq_base::NoMemory;
-use std::alloc::Global;
 
 impl Rows {
-    /// Finds and inserts the row of each relator, which dies in the consistent answer that is covered.
+    /// Finds and inserts the row of each relator, which dies in the consistent answer that is covered. Takes no memory.
     pub(crate) fn insert_relators<C: Collect>(
         &mut self,
-        alloc: Global,
         s: &mut Scratch<C>,
         cover: &Cover,
         images: &Images,
         pres: &LPres,
-        relators: &[Relator],
-    ) -> Result<(), NoMemory>
+        sources: Vec<RowSource>,
+    )
         requires over { AreOver cover.now self.old }
         requires consistent { IsConsistent cover.now.answer.presentation }
         requires scratch { IsScratch (cover_presentation cover.now) s.old }
         requires images { AreLifted cover.now (C.meaning (rowed_presentation (cover_presentation cover.now))) images.now }
         requires names { cover.now.answer.names ≡ pres.now.names }
-        requires named { All (IsNamed pres.now) relators.now }
-        requires killed { All (Dies pres.now cover.now.answer) relators.now }
+        requires named { All (IsNamedSource pres.now) sources.items }
+        requires killed { All (DiesIn pres.now cover.now.answer) sources.items }
         ensures scratch { IsScratch (cover_presentation cover.now) s.new }
-        ensures taken { OnOk result (HaveTakenRelators cover.now pres.now relators.now self.old self.new) }
+        ensures over { AreOver cover.now self.new }
+        ensures taken { HaveTakenMore pres.now cover.now (C.meaning (rowed_presentation (cover_presentation cover.now)))
+            sources.items self.old self.new }
     {
-        for relator in relators {
-            self.insert_relator(alloc, s, cover, images, pres, relator)?;
+        for source in sources {
+            self.insert_relator(s, cover, images, pres, source);
         }
-        Ok(())
     }
 
     /// Finds and inserts the row of a relator, which dies in the consistent answer that is covered.
     fn insert_relator<C: Collect>(
         &mut self,
-        alloc: Global,
         s: &mut Scratch<C>,
         cover: &Cover,
         images: &Images,
         pres: &LPres,
-        relator: &Relator,
-    ) -> Result<(), NoMemory>
+        source: RowSource,
+    )
         requires over { AreOver cover.now self.old }
         requires consistent { IsConsistent cover.now.answer.presentation }
         requires scratch { IsScratch (cover_presentation cover.now) s.old }
         requires images { AreLifted cover.now (C.meaning (rowed_presentation (cover_presentation cover.now))) images.now }
         requires names { cover.now.answer.names ≡ pres.now.names }
-        requires named { IsNamed pres.now relator.now }
-        requires killed { Dies pres.now cover.now.answer relator.now }
+        requires named { IsNamedSource pres.now source }
+        requires killed { DiesIn pres.now cover.now.answer source }
         ensures scratch { IsScratch (cover_presentation cover.now) s.new }
-        ensures taken { OnOk result (HasTakenWord cover.now self.old self.new (named_word pres.now relator.now)) }
+        ensures over { AreOver cover.now self.new }
+        ensures taken { HaveTakenMore pres.now cover.now (C.meaning (rowed_presentation (cover_presentation cover.now)))
+            (source ∷ []) self.old self.new }
     {
         let _names = pres.names();
-        let word = relator.word(pres);
-        let source = relator.source(alloc)?;
+        let word = word(&source, pres);
         let _found = relator_row(s, cover, images, word, &mut self.row);
-        self.insert(source)
+        self.insert(source);
     }
 }

@@ -1,5 +1,5 @@
 use Rattle.std.proofs.Common.{◌+◌, ◌++◌, ◌∷◌, [], List, ℕ, sym, ap, ◌∙◌}
-use Rattle.class_step.proofs.KeptSteps.{kept_columns-kept, kept_columns-pivot}
+use Rattle.class_step.proofs.kept_tails.KeptSteps.{kept_columns-kept, kept_columns-pivot}
 use Rattle.class_step.proofs.kept.kept_columns.Goals as goal
 use Rattle.class_step.proofs.kept.kept_columns.Goals.{then-not-is_pivot+in_ok-push, else-not-is_pivot}
 

@@ -1,5 +1,5 @@
 use Rattle.std.proofs.Common.{◌≡◌}
-use Rattle.class_step.specs.Kept.{kept_columns}
+use Rattle.cover_quotient.specs.Kept.{kept_columns}
 use Rattle.class_step.proofs.kept.kept_columns.Given as goal
 
 abbrev pub invariant-loop-c : goal.invariant-loop-c

@@ -1,11 +1,14 @@
-use Rattle.std.proofs.Common.{take}
+use Rattle.std.proofs.Common.{◌≡◌, ◌++◌}
 use Rattle.pc_presentation.specs.Scratch.{IsScratch}
+use Rattle.pc_presentation.specs.Tailed.{rowed_presentation}
 use Rattle.p_cover.specs.Covers.{cover_presentation}
-use Rattle.tower.specs.StepRows.{HaveTakenRelators}
+use Rattle.tower.specs.StepRows.{AreOver, HaveTakenMore}
 use Rattle.tower.proofs.rows.Rows.insert_relators.Given as goal
 
--- the relators so far have rows
-abbrev pub invariant-loop-relator : goal.invariant-loop-relator
-invariant-loop-relator g l =
+-- the rows of the relators so far were taken
+abbrev pub invariant-loop-source : goal.invariant-loop-source
+invariant-loop-source g l =
     IsScratch (cover_presentation l.fn.cover) l.s
-    × HaveTakenRelators l.fn.cover l.fn.pres (take l.relator-index l.relators) l.fn.self l.self
+    × (l.yielded ++ l.source-iterator.rest.items ≡ l.fn.sources.items)
+    × AreOver l.fn.cover l.self
+    × HaveTakenMore l.fn.pres l.fn.cover (g.C.Collect.meaning (rowed_presentation (cover_presentation l.fn.cover))) l.yielded l.fn.self l.self

@@ -1,6 +1,0 @@
--- The law is the lemma of the same name.
-use Rattle.class_step.proofs.AnswerLaws.{words_of_the_span_die}
-use Rattle.class_step.proofs.laws_of_answers.words_of_the_span_die.Goals as goal
-
-pub returns : goal.returns
-returns c = words_of_the_span_die

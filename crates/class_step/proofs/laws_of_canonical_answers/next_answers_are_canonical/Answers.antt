@@ -1,6 +1,0 @@
--- The law is the lemma of the same name.
-use Rattle.class_step.proofs.CanonicalAnswers.{next_answers_are_canonical}
-use Rattle.class_step.proofs.laws_of_canonical_answers.next_answers_are_canonical.Goals as goal
-
-pub returns : goal.returns
-returns c = next_answers_are_canonical

@@ -1,6 +1,0 @@
--- The law is the lemma of the same name.
-use Rattle.class_step.proofs.NextReady.{next_answers_are_ready}
-use Rattle.class_step.proofs.laws_of_kept_tails.next_answers_are_ready.Goals as goal
-
-pub returns : goal.returns
-returns c = next_answers_are_ready

@@ -1,8 +1,0 @@
-use Rattle.std.proofs.Common.{◌≡◌, ◌++◌, map, take}
-use Rattle.pc_presentation.specs.Definition.{definition_of}
-use Rattle.class_step.specs.NextAnswer.{sources_at}
-use Rattle.class_step.proofs.next_answer.push_sources.Given as goal
-
-abbrev pub invariant-loop-k : goal.invariant-loop-k
-invariant-loop-k l =
-    map definition_of l.definitions.items ≡ map definition_of l.initial.definitions.items ++ sources_at (take l.k l.tails) l.cover.sources

@@ -1,0 +1,9 @@
+pub mod carried_rows
+pub mod spans
+pub mod kept_tails
+pub mod next_answers
+pub mod fitting
+pub mod qualifying
+pub mod canonical_answers
+pub mod stages
+pub mod vectors

@@ -1,0 +1,6 @@
+-- The law is the lemma of the same name.
+use Rattle.cover_quotient.proofs.next_answers.AnswerLaws.{next_answers_are_consistent}
+use Rattle.cover_quotient.proofs.laws_of_answers.next_answers_are_consistent.Goals as goal
+
+pub returns : goal.returns
+returns c = next_answers_are_consistent

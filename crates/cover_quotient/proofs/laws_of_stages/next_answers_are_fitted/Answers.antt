@@ -1,0 +1,6 @@
+-- The law is the lemma of the same name.
+use Rattle.cover_quotient.proofs.stages.FittedSteps.{next_answers_are_fitted}
+use Rattle.cover_quotient.proofs.laws_of_stages.next_answers_are_fitted.Goals as goal
+
+pub returns : goal.returns
+returns c = next_answers_are_fitted

@@ -1,0 +1,6 @@
+-- The law is the lemma of the same name.
+use Rattle.cover_quotient.proofs.stages.Towers.{towers_bound_orders}
+use Rattle.cover_quotient.proofs.laws_of_stages.towers_bound_orders.Goals as goal
+
+pub returns : goal.returns
+returns c = towers_bound_orders

@@ -1,0 +1,6 @@
+-- The law is the lemma of the same name.
+use Rattle.cover_quotient.proofs.stages.Towers.{towers_stay}
+use Rattle.cover_quotient.proofs.laws_of_stages.towers_stay.Goals as goal
+
+pub returns : goal.returns
+returns c = towers_stay

@@ -1,0 +1,6 @@
+-- The law is the lemma of the same name.
+use Rattle.cover_quotient.proofs.stages.FirstStages.{trivial_answers_are_stages}
+use Rattle.cover_quotient.proofs.laws_of_stages.trivial_answers_are_stages.Goals as goal
+
+pub returns : goal.returns
+returns c = trivial_answers_are_stages

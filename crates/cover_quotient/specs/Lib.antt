@@ -1,0 +1,17 @@
+pub mod Combinations
+pub mod Kept
+pub mod Carried
+pub mod NextAnswer
+pub mod Defining
+pub mod NextParts
+pub mod OverlapRows
+pub mod SpanLaws
+pub mod Fits
+pub mod AnswerLaws
+pub mod Levels
+pub mod OrderLaws
+pub mod Stages
+pub mod StageLaws
+pub mod KeptTailLaws
+pub mod CanonicalAnswerLaws
+pub mod FittingLaws

@@ -1,0 +1,3 @@
+pub mod RowSources
+pub mod HeldRuns
+mod CountLaws

@@ -1,0 +1,4 @@
+pub mod RowSources
+pub mod HeldSteps
+pub mod HeldRuns
+pub mod RowCounts

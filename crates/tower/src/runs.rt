@@ -1,0 +1,86 @@
+//! Towers of few relators: class after class over full covers.
+
+ghost use Rattle.std.specs.Prelude.{◌≡◌, ◌<◌, ◌≤◌, List, [], length, IfOk, IfErr};
+ghost use Rattle.std.specs.List.{All};
+ghost use Rattle.pq_base.specs.Limits.{max_class};
+ghost use Rattle.pq_base.specs.Prime.{prime_value};
+ghost use Rattle.derivation_log.specs.declared.source.Run.TheVariants.{Iterated, Whole};
+ghost use Rattle.derivation_log.specs.HeldSteps.{HeldStep, KeepsTheSame};
+ghost use Rattle.cover_quotient.specs.Stages.{full_cover_of};
+ghost use Rattle.tower.specs.NamedParts.{IsNamed, named_part};
+ghost use Rattle.tower.specs.Answers.{IsStepFrom, IsGrown, IsQuotient};
+ghost use Rattle.tower.specs.LoggedSteps.{IsLogged};
+ghost use Rattle.tower.specs.Refusals.{IsRefusalOf};
+
+use crate::classes::one_class;
+use crate::refusal::TowerRefusal;
+use crate::relator::Relator;
+use class_step::Step;
+use derivation_log::{Log, Run};
+use lpres_reader::LPres;
+use p_cover::full_cover;
+use pc_presentation::{Answer, Collect};
+use pq_base::{NoMemory, Prime};
+use std::alloc::Global;
+
+/// The largest quotient of the group of the relators named, of p-class at most so much, in its canonical form. The log is told of
+/// the step of each class.
+pub fn finite<C: Collect + Drop, L: Log>(
+    alloc: Global,
+    pres: &LPres,
+    relators: &[Relator],
+    prime: Prime,
+    class: u8,
+    log: &mut L,
+) -> Result<Answer, TowerRefusal>
+    requires named { All (IsNamed pres.now) relators.now }
+    requires from_one { 1 ≤ class }
+    requires class { class ≤ max_class }
+    requires log { (steps : List HeldStep) → L.keeps log.old Whole steps → steps ≡ [] }
+    ensures quotient { IfOk result (λ a. IsQuotient (named_part pres.now relators.now) (prime_value prime) class a) }
+    ensures refusal { IfErr result (λ e. IsRefusalOf (named_part pres.now relators.now) (prime_value prime) class Whole e) }
+    ensures other { KeepsTheSame (L.keeps log.old Iterated) (L.keeps log.new Iterated) }
+{
+    let mut answer = Answer::trivial(alloc, prime, pres.names())?;
+    for k in 0..class {
+        let _rank = answer.pcp().rank();
+        match full_class::<C, L>(alloc, pres, relators, prime, k, &answer, log)? {
+            Step::Next(next) => answer = next,
+            Step::Same => return Ok(answer),
+            Step::TooLarge { rank } => {
+                return Err(TowerRefusal::TooLarge {
+                    part: Run::Whole,
+                    class: k + 1,
+                    rank,
+                })
+            }
+        }
+    }
+    let _rank = answer.pcp().rank();
+    Ok(answer)
+}
+
+/// What the answer of class k leads to, by its full cover.
+fn full_class<C: Collect + Drop, L: Log>(
+    alloc: Global,
+    pres: &LPres,
+    relators: &[Relator],
+    prime: Prime,
+    k: u8,
+    answer: &Answer,
+    log: &mut L,
+) -> Result<Step, NoMemory>
+    requires named { All (IsNamed pres.now) relators.now }
+    requires grown { IsGrown (named_part pres.now relators.now) (prime_value prime) k answer.now }
+    requires class { k < max_class }
+    requires log { (steps : List HeldStep) → L.keeps log.old Whole steps → length steps ≡ k }
+    ensures step { IfOk result (λ step. IsStepFrom (named_part pres.now relators.now) (prime_value prime) k answer.now step) }
+    ensures logged { IfOk result (λ step. IsLogged pres.now C.meaning (full_cover_of answer.now)
+        (L.keeps log.old Whole) (L.keeps log.new Whole) step) }
+    ensures other { KeepsTheSame (L.keeps log.old Iterated) (L.keeps log.new Iterated) }
+{
+    let _from = (prime, k);
+    let cover = full_cover(alloc, answer)?;
+    let _pcp = cover.pcp();
+    one_class::<C, L>(alloc, pres, relators, &cover, Run::Whole, log)
+}

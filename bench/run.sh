@@ -42,6 +42,19 @@ reader() {
     done
 }
 
+# texts on which a reader may take long: at most a second each, and 12 bytes for each byte and 4 for each letter
+texts() {
+    mkdir "$work/texts"
+    python3 bench/reader_texts.py "$work/texts" | while read -r family letters; do
+        text=$work/texts/$family
+        bytes=$(wc -c <"$text")
+        read=$(seconds sh -c "$engine quotient 2 1 <'$text' || true")
+        peak=$(kilobytes sh -c "$engine quotient 2 1 <'$text' || true")
+        echo "texts $family: $bytes bytes, $letters letters, $read s, peak $peak kB of $(((12 * bytes + 4 * letters) / 1024)) kB"
+        rm "$text"
+    done
+}
+
 rows() {
     rustc -O -o "$work/rows" bench/rows.rs
     ours=$(seconds "$measured" rows 1000000)
@@ -70,6 +83,7 @@ products() {
 }
 
 reader
+texts
 rows
 basis
 products

@@ -3,3 +3,4 @@ pub mod Texts
 pub mod Readings
 pub mod FirstFaults
 pub mod Limits
+pub mod Samples

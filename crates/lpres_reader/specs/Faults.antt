@@ -4,8 +4,7 @@ use Rattle.std.specs.Prelude.{◌≡◌, ℕ, suc, false, List, [], ◌∷◌, �
 use Rattle.std.specs.List.{join_with_byte}
 use Rattle.pq_base.specs.LPresentation.{LPresentation, AreDistinct}
 use Rattle.lpres_reader.specs.Lines.{is_skipped, lines_of, content_of, IsShallow}
-use Rattle.lpres_reader.specs.Tokens.{Token, name, ReadsTokens}
-use Rattle.lpres_reader.specs.Front.{token_first, front_of}
+use Rattle.lpres_reader.specs.Tokens.{Token, ReadsTokens, BeginsWithName}
 use Rattle.lpres_reader.specs.Reads.{IsGenerators, Reads}
 use Rattle.lpres_reader.specs.Trees.{ItemTree, item_tokens, body_tokens, AreKnown, GivesAll}
 use Rattle.lpres_reader.specs.Trials.{Which, Trial, AreKept, IsFirstPassed, reported, item_trials, names_trials}
@@ -56,7 +55,7 @@ LineFault (Some M) line = Unless (IsShallow line) Deep (λ _. Unless (ItemForm l
 
 -- a line whose first token is `generators`, whatever follows
 abbrev pub IsGeneratorsLine : List ℕ → Type 0
-IsGeneratorsLine line = (rest : List ℕ) × (front_of line ≡ token_first (name (codes "generators")) rest)
+IsGeneratorsLine line = BeginsWithName (codes "generators") line
 
 pub record HasGenerators (text : List ℕ) : Type 0 where
   pub before : List (List ℕ)

@@ -1,5 +1,5 @@
 -- The form of a line, whatever its names and numbers are: what the tokens so far leave to be said of the next one.
-use Rattle.std.specs.Prelude.{◌≡◌, ℕ, Bool, true, false, List, [], ◌∷◌, codes, bytes_eq, if◌then◌else◌, Option, Some, None, is_some, Result, Ok, Err}
+use Rattle.std.specs.Prelude.{◌≡◌, ℕ, Bool, true, false, List, [], ◌∷◌, codes, bytes_eq, if◌then◌else◌, Option, Some, None, Result, Ok, Err}
 use Rattle.lpres_reader.specs.declared.fault.Stop.{Stop}
 use Rattle.lpres_reader.specs.declared.fault.Stop.TheVariants.{Fault, NoMemory}
 use Rattle.lpres_reader.specs.declared.fault.Kind.TheVariants.{Syntax}
@@ -13,7 +13,6 @@ use Rattle.lpres_reader.specs.declared.syntax.Outer.{Outer}
 use Rattle.lpres_reader.specs.declared.syntax.Outer.TheVariants.{Relators, Arrows}
 use Rattle.lpres_reader.specs.declared.syntax.Form.{Form}
 use Rattle.lpres_reader.specs.Tokens.{Token, name, number, symbol}
-use Rattle.lpres_reader.specs.Parser as parser
 
 -- what a call answers that gives a value, or finds none and stops with a syntax fault; want of memory may come in place of either
 abbrev pub Found : {X : Type 0} → Result X Stop → Option X → Type 0
@@ -100,31 +99,3 @@ is_behind stage = false
 abbrev pub nothing_open : List Bracket → Bool
 nothing_open [] = true
 nothing_open (b ∷ brackets) = false
-
--- the forms of what is parsed
-abbrev pub outer_of : parser.Outer → Outer
-outer_of (parser.in_relators s rs left) = Relators (is_some left)
-outer_of (parser.in_arrows qs n) = Arrows
-
-abbrev pub has_entry : parser.Entered → Bool
-has_entry parser.none = false
-has_entry (parser.first u) = true
-has_entry (parser.several e) = true
-
-abbrev pub outer_around : parser.Around → Outer
-outer_around (parser.outside o) = outer_of o
-outer_around (parser.in_round p a) = outer_around a
-outer_around (parser.in_square p e a) = outer_around a
-
-abbrev pub brackets_around : parser.Around → List Bracket
-brackets_around (parser.outside o) = []
-brackets_around (parser.in_round p a) = Round ∷ brackets_around a
-brackets_around (parser.in_square p e a) = Square (has_entry e) ∷ brackets_around a
-
-abbrev pub form_of : parser.State → Form
-form_of (parser.at_name qs) = form at.Start Arrows []
-form_of (parser.at_arrow qs n) = form at.From Arrows []
-form_of (parser.at_factor a s) = form at.Before (outer_around a) (brackets_around a)
-form_of (parser.at_exponent a s f) = form at.Caret (outer_around a) (brackets_around a)
-form_of (parser.at_digits a s f) = form at.Minus (outer_around a) (brackets_around a)
-form_of (parser.behind a s f) = form at.Behind (outer_around a) (brackets_around a)

@@ -1,10 +1,9 @@
 -- Whether the names of a line are generators, as the reader asks it.
-use Rattle.std.specs.Prelude.{◌≡◌, ℕ, Bool, true, List, is_some, Result, Ok, Err}
-use Rattle.lpres_reader.specs.declared.fault.Stop.{Stop}
-use Rattle.lpres_reader.specs.declared.fault.Kind.TheVariants.{UnknownName}
-use Rattle.lpres_reader.specs.Stops.{Refuses}
+use Rattle.std.specs.Prelude.{◌≡◌, ℕ, Bool, true, false, List, is_some}
 use Rattle.lpres_reader.specs.Tokens.{Token, name, number, symbol, ReadsTokens}
+use Rattle.lpres_reader.specs.Front.{token_first, front_of}
 use Rattle.lpres_reader.specs.Trees.{place_of, AreKnown}
+use Rattle.lpres_reader.specs.Faults.{ItemForm}
 
 -- a token is no name, or that of a generator
 abbrev pub is_known : List (List ℕ) → Token → Bool
@@ -12,10 +11,15 @@ is_known names (name n) = is_some (place_of names n)
 is_known names (number digits) = true
 is_known names (symbol s) = true
 
--- what a call answers that asks whether all names of a line of tokens are known
-abbrev pub Checked : List (List ℕ) → List Token → Result (Unit {0}) Stop → Type 0
-Checked names ts (Ok u) = AreKnown names ts
-Checked names ts (Err e) = Refuses (λ k. (k ≡ UnknownName) × (¬ AreKnown names ts)) e
+-- what is told of whether all names among tokens are generators
+abbrev pub TellsKnown : List (List ℕ) → List Token → Bool → Type 0
+TellsKnown names ts true = AreKnown names ts
+TellsKnown names ts false = ¬ AreKnown names ts
 
-abbrev pub ChecksNames : List (List ℕ) → List ℕ → Result (Unit {0}) Stop → Type 0
-ChecksNames names line result = (ts : List Token) → ReadsTokens line ts → Checked names ts result
+-- the line has the form of an item, and this is told of the names behind its first token
+pub record IsChecked (names : List (List ℕ)) (line : List ℕ) (known : Bool) : Type 0 where
+  pub form : ItemForm line
+  pub keyword : List ℕ
+  pub rest : List ℕ
+  pub front : front_of line ≡ token_first (name keyword) rest
+  pub tells : (ts : List Token) → ReadsTokens rest ts → TellsKnown names ts known

@@ -1,4 +1,5 @@
 pub mod Lines
+pub mod Recipes
 pub mod Tokens
 pub mod Words
 pub mod Items
@@ -11,7 +12,6 @@ pub mod Faults
 pub mod Verdicts
 pub mod Makes
 pub mod GeneratorNames
-pub mod TriedSoFar
 pub mod ReaderLaws
 pub mod Front
 pub mod Presentations

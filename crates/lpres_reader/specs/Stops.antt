@@ -1,6 +1,4 @@
 -- Why a line is not read, and what a call answers that reads a part of a line.
-use Rattle.free_words.specs.declared.refusal.WordRefusal.{WordRefusal}
-use Rattle.free_words.specs.declared.refusal.WordRefusal.TheVariants as word
 use Rattle.lpres_reader.specs.declared.fault.Stop.{Stop}
 use Rattle.lpres_reader.specs.declared.fault.Stop.TheVariants.{Fault, NoMemory}
 use Rattle.lpres_reader.specs.declared.fault.Kind.TheVariants as kind
@@ -26,10 +24,6 @@ kind_of kind.UnknownName = faults.UnknownName
 kind_of kind.RepeatedName = faults.RepeatedName
 kind_of (kind.Limit w n) = faults.Limit (which_of w) n
 kind_of kind.NotAllImages = faults.NotAllImages
-
-abbrev pub stop_of_word : WordRefusal → Stop
-stop_of_word (word.TooLong n) = Fault (kind.Limit which.Letters n)
-stop_of_word word.NoMemory = NoMemory
 
 -- a fault of which this holds, or want of memory
 abbrev pub Refuses : (Rattle.lpres_reader.specs.declared.fault.Kind.Kind → Type 0) → Stop → Type 0

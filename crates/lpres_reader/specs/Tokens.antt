@@ -51,3 +51,11 @@ pub data ReadsTokens : List ℕ → List Token → Type 0 where
       → line ≡ text ++ rest → IsNumberText text → StopsBefore is_ascii_digit rest → ReadsTokens rest ts → ReadsTokens line (number text ∷ ts)
   symbol_first : {line : List ℕ} {ts : List Token} (s : Symbol) (rest : List ℕ)
       → line ≡ symbol_bytes s ++ rest → ReadsTokens rest ts → ReadsTokens line (symbol s ∷ ts)
+
+-- the first token of the line is this name, whatever follows: the name does not go on behind the token's bytes
+pub record BeginsWithName (n line : List ℕ) : Type 0 where
+  pub front : List ℕ
+  pub rest : List ℕ
+  pub is : line ≡ front ++ rest
+  pub token : ReadsTokens front (name n ∷ [])
+  pub stops : StopsBefore is_name_byte rest

@@ -13,7 +13,7 @@ use pq_base::{Name, NoMemory};
 use std::alloc::Global;
 
 /// A letter, and how often it comes.
-#[derive(Clone, Copy, Debug)]
+#[derive(Clone, Copy)]
 pub(crate) struct Run {
     letter: i32,
     size: usize,

@@ -1,12 +1,10 @@
 //! Why a line is not read.
 
 ghost use Rattle.std.specs.Prelude.{◌≡◌};
-ghost use Rattle.lpres_reader.specs.Stops.{stop_of_word};
 ghost use Rattle.lpres_reader.specs.declared.fault.Stop.TheVariants.{Fault as Faulty, NoMemory as WantOfMemory};
 ghost use Rattle.lpres_reader.specs.declared.fault.Kind.TheVariants.{Syntax as SyntaxFault};
 
 use crate::token::NoToken;
-use free_words::WordRefusal;
 use pq_base::NoMemory;
 use std::alloc::{AllocError, AllocFailed};
 
@@ -58,7 +56,7 @@ pub struct TextFault {
 }
 
 /// Why a line is not read.
-#[derive(Clone, Copy, Debug, PartialEq, Eq)]
+#[derive(Clone, Copy)]
 pub enum Stop {
     /// The line has this fault.
     Fault(Kind),
@@ -95,16 +93,5 @@ impl<T: Drop> From<AllocFailed<T>> for Stop {
 
     fn from(_refused: AllocFailed<T>) -> Stop {
         Stop::NoMemory
-    }
-}
-
-impl From<WordRefusal> for Stop {
-    ghost from_gives = { λ refused e. e ≡ stop_of_word refused };
-
-    fn from(refused: WordRefusal) -> Stop {
-        match refused {
-            WordRefusal::TooLong(letters) => Stop::Fault(Kind::Limit(Which::Letters, letters)),
-            WordRefusal::NoMemory => Stop::NoMemory,
-        }
     }
 }

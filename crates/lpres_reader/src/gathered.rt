@@ -4,13 +4,15 @@ ghost use Rattle.std.specs.Prelude.{◌≡◌, ◌≤◌};
 ghost use Rattle.lpres_reader.specs.Values.{Given, nothing_gathered, with_relator, with_arrow, more_letters};
 
 use crate::fault::{Kind, Stop, Which};
+use crate::recipe::Recipe;
+use crate::writing::write_word;
 use free_words::Word;
 use pq_base::limits::{FIXED, TOTAL};
 use std::alloc::Global;
 use std::marker::Model;
 
 /// An arrow from the generator at a place, counted from 0.
-#[derive(Debug, Drop)]
+#[derive(Drop)]
 pub struct Arrow {
     /// The place of the generator.
     pub from: usize,
@@ -19,7 +21,7 @@ pub struct Arrow {
 }
 
 /// The relators or arrows of a line so far.
-#[derive(Debug, Drop)]
+#[derive(Drop)]
 pub struct Gathered {
     /// Which limit counts the relators.
     which: Which,
@@ -59,7 +61,7 @@ impl Gathered {
     }
 
     /// With one relator more.
-    pub(crate) fn with_relator(self, relator: Word) -> Result<Gathered, Stop>
+    pub(crate) fn with_relator(self, relator: Recipe) -> Result<Gathered, Stop>
         ensures { Given result (with_relator self relator) }
     {
         let count = self.count + 1;
@@ -68,7 +70,8 @@ impl Gathered {
         }
         let total = more_letters(self.total, &relator)?;
         let mut relators = self.relators;
-        relators.push(relator)?;
+        let word = write_word(*relators.allocator(), &relator)?;
+        relators.push(word)?;
         Ok(Gathered {
             which: self.which,
             count,
@@ -79,11 +82,12 @@ impl Gathered {
     }
 
     /// With one arrow more.
-    pub(crate) fn with_arrow(self, from: usize, to: Word) -> Result<Gathered, Stop>
+    pub(crate) fn with_arrow(self, from: usize, to: Recipe) -> Result<Gathered, Stop>
         ensures { Given result (with_arrow self from to) }
     {
         let total = more_letters(self.total, &to)?;
         let mut arrows = self.arrows;
+        let to = write_word(*arrows.allocator(), &to)?;
         arrows.push(Arrow { from, to })?;
         Ok(Gathered {
             which: self.which,
@@ -117,11 +121,11 @@ impl Gathered {
 }
 
 /// The letters so far with those of a word.
-fn more_letters(total: usize, word: &Word) -> Result<usize, Stop>
+fn more_letters(total: usize, word: &Recipe) -> Result<usize, Stop>
     requires { total ≤ 4194304 }
     ensures { Given result (more_letters total word.now) }
 {
-    let more = total + word.letters().len();
+    let more = total + word.letters();
     if more > TOTAL {
         return Err(Stop::Fault(Kind::Limit(Which::Total, more as u64)));
     }

@@ -29,7 +29,8 @@ fn image_of(arrows: &[Arrow], place: usize) -> Option<&Word>
 
 /// The images of all generators.
 pub fn images(alloc: Global, generators: usize, arrows: &[Arrow]) -> Result<Vec<Word>, Stop>
-    ensures { MatchResult result (λ f. GivesEach generators (mappings arrows.now) f.items) (Refuses (λ k. (k ≡ MissesImages) × GivesNone generators (mappings arrows.now))) }
+    ensures { MatchResult result (λ f. GivesEach generators (mappings arrows.now) f.items)
+        (Refuses (λ k. (k ≡ MissesImages) × GivesNone generators (mappings arrows.now))) }
 {
     let mut images = Vec::new(alloc);
     for place in 0..generators {

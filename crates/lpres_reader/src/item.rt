@@ -11,11 +11,12 @@ ghost use Rattle.lpres_reader.specs.Values.{Given, RunsTo};
 use crate::depth::is_shallow;
 use crate::fault::{Kind, Stop, Which};
 use crate::gathered::Gathered;
-use crate::known::check_names;
 use crate::presentation::LPres;
+use crate::steps::{plain_steps, step};
 use crate::syntax::check_form;
 use crate::token::{next_name, next_token};
-use crate::value::{Value, at_arrows, at_relators, end, plain_steps, step};
+use crate::value::{Value, at_arrows, at_relators};
+use crate::word_ends::end;
 use indexmap::IndexSet;
 use pq_base::Name;
 use pq_base::limits::ENDOS;
@@ -102,9 +103,10 @@ pub fn read_item(
     if !is_shallow(line) {
         return Err(Stop::Fault(Kind::Deep));
     }
-    check_form(alloc, line)?;
-    let (_, after) = next_name(line)?;
-    check_names(names, after)?;
+    let known = check_form(alloc, names, line)?;
+    if !known {
+        return Err(Stop::Fault(Kind::UnknownName));
+    }
     read_formed(alloc, names, pres, line)
 }
 

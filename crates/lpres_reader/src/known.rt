@@ -1,13 +1,12 @@
 //! The generators that names stand for.
 
-ghost use Rattle.std.specs.Prelude.{◌≡◌, ◌<◌, IfSome};
+ghost use Rattle.std.specs.Prelude.{◌≡◌, ◌<◌, ◌&&◌, IfSome};
 ghost use Rattle.lpres_reader.specs.Trees.{place_of};
 ghost use Rattle.lpres_reader.specs.Front.{token_of};
 ghost use Rattle.lpres_reader.specs.Presentations.{AreGenerators};
-ghost use Rattle.lpres_reader.specs.Known.{is_known, ChecksNames};
+ghost use Rattle.lpres_reader.specs.Known.{is_known};
 
-use crate::fault::{Kind, Stop};
-use crate::token::{Token, next_token};
+use crate::token::Token;
 use indexmap::IndexSet;
 use pq_base::Name;
 
@@ -34,17 +33,10 @@ fn is_known(names: &IndexSet<Name>, token: Token) -> bool
     }
 }
 
-/// Refuses a line with a name that is no generator.
-pub(crate) fn check_names(names: &IndexSet<Name>, line: &[u8]) -> Result<(), Stop>
+/// Whether all names so far are generators, with one token more.
+pub(crate) fn are_known(names: &IndexSet<Name>, so_far: bool, token: Token) -> bool
     requires { AreGenerators names.now.keys }
-    ensures { ChecksNames names.now.keys line.now result }
+    ensures { result ≡ (so_far && is_known names.now.keys (token_of token.entry)) }
 {
-    let mut rest = line;
-    while let Some((token, after)) = next_token(rest)? {
-        if !is_known(names, token) {
-            return Err(Stop::Fault(Kind::UnknownName));
-        }
-        rest = after;
-    }
-    Ok(())
+    so_far && is_known(names, token)
 }

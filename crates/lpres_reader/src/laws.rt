@@ -31,13 +31,13 @@ pub fn verdicts_are_right()
 {}
 
 /// The canonical text of a presentation within the limits reads as that presentation.
-#[tactic(auto, using(crate::proofs::CanonicalReads::canonical_texts_read_back))]
+#[tactic(auto, using(crate::proofs::canonical_texts::CanonicalReads::canonical_texts_read_back))]
 pub fn canonical_texts_read_back()
     ensures { CanonicalTextsReadBack }
 {}
 
 /// The canonical text of a presentation within the limits is short enough to be read.
-#[tactic(auto, using(crate::proofs::CanonicalLengths::canonical_texts_are_short))]
+#[tactic(auto, using(crate::proofs::canonical_texts::CanonicalLengths::canonical_texts_are_short))]
 pub fn canonical_texts_are_short()
     ensures { CanonicalTextsAreShort }
 {}

@@ -3,11 +3,10 @@
 #![tactic(auto)]
 
 mod canonical;
-#[cfg(test)]
-mod canonical_tests;
 mod copies;
 mod depth;
 mod exponent;
+mod factor;
 mod fault;
 mod gathered;
 mod generators;
@@ -18,19 +17,20 @@ pub mod laws;
 mod line;
 mod named;
 mod parts;
-#[cfg(test)]
-mod parts_tests;
 mod plain;
 mod presentation;
 mod products;
 mod reading;
+mod recipe;
 mod refusal;
+mod steps;
 mod syntax;
-#[cfg(test)]
-mod tests;
 mod token;
+mod unit_steps;
 mod value;
 mod word_along;
+mod word_ends;
+mod writing;
 
 pub use canonical::write;
 pub use fault::{Kind, TextFault, Which};

@@ -11,7 +11,7 @@ fn is_blank(byte: u8) -> bool
     matches!(byte, b' ' | b'\t' | b'\r')
 }
 
-#[tactic(auto, using(crate::proofs::LineLemmas::prefix_le))]
+#[tactic(auto, using(crate::proofs::texts::LineLemmas::prefix_le))]
 fn blanks_at_front(line: &[u8]) -> usize
     ensures length { result ≡ prefix_len is_blank line.now }
     ensures within { result ≤ length line.now }

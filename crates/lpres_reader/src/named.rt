@@ -15,7 +15,7 @@ use std::alloc::Global;
 use std::marker::Model;
 
 /// What the lines so far are, with the names of its generators as a set. Contracts see it as the presentation.
-#[derive(Debug, Drop)]
+#[derive(Drop)]
 pub struct Named {
     names: IndexSet<Name>,
     pres: LPres,

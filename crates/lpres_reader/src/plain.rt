@@ -9,8 +9,8 @@ ghost use Rattle.lpres_reader.specs.Values.{FactorsRunOn, FactorsStopAt};
 use crate::fault::Stop;
 use crate::known::place_of;
 use crate::products::joined_letter;
+use crate::recipe::Recipe;
 use crate::token::{Symbol, Token, next_token};
-use free_words::Word;
 use indexmap::IndexSet;
 use pq_base::Name;
 
@@ -33,9 +33,9 @@ fn plain_factor<'a>(names: &IndexSet<Name>, line: &'a [u8]) -> Option<(usize, &'
 /// The product of factors with those that come next, and what is left of the line.
 pub(crate) fn with_plain_factors<'a>(
     names: &IndexSet<Name>,
-    before: Word,
+    before: Recipe,
     line: &'a [u8],
-) -> Result<(Word, &'a [u8]), Stop>
+) -> Result<(Recipe, &'a [u8]), Stop>
     requires { AreGenerators names.now.keys }
     ensures { MatchResult result (λ found. FactorsRunOn names.now.keys line.now found.1.now before found.0) (Refuses (FactorsStopAt names.now.keys before line.now)) }
 {

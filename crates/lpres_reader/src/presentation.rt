@@ -179,7 +179,7 @@ impl LPres {
     }
 
     /// The letters of all relators and images.
-    #[tactic(auto, using(crate::proofs::EndoLetters::endo_letters_map))]
+    #[tactic(auto, using(crate::proofs::items::EndoLetters::endo_letters_map))]
     pub(crate) fn total_letters(&self) -> usize
         ensures total { result ≡ total_letters self.now }
         ensures limit { result ≤ 4194304 }

@@ -1,83 +1,95 @@
 //! The words that parts of a line make. Where one is too long, the line stops with its letters.
 
-ghost use Rattle.std.specs.Prelude.{◌≡◌, ◌<◌, ◌++◌, IfSome, Some, Ok};
+ghost use Rattle.std.specs.Prelude.{◌≡◌, ◌<◌, ◌≤◌, ◌*◌, ◌++◌, length, IfSome, MatchResult, Some, Ok};
 ghost use Rattle.pq_base.specs.SignedWord.{inv, comm, conj};
+ghost use Rattle.lpres_reader.specs.declared.fault.Kind.TheVariants.{Limit as PassedLimit};
+ghost use Rattle.lpres_reader.specs.declared.fault.Which.TheVariants.{Letters as OfLetters};
+ghost use Rattle.lpres_reader.specs.declared.fault.Stop.TheVariants.{Fault as Faulty};
 ghost use Rattle.lpres_reader.specs.Trees.{letter_at};
 ghost use Rattle.lpres_reader.specs.Values.{Given, fits, raised, signed};
 
 use crate::exponent::size_of;
+use crate::factor::Factor;
 use crate::fault::{Kind, Stop, Which};
-use free_words::{Word, commutator, conjugate, extended, extended_by, inverse, power, product};
-use pq_base::limits::EXPONENT;
+use crate::recipe::Recipe;
+use pq_base::limits::{EXPONENT, LETTERS};
 use std::alloc::Global;
 
+/// Refuses a word of too many letters.
+fn check_letters(letters: usize) -> Result<(), Stop>
+    ensures { MatchResult result (λ _. letters ≤ 65536) (λ e. (e ≡ Faulty (PassedLimit OfLetters letters)) × (65536 < letters)) }
+{
+    if letters > LETTERS {
+        return Err(Stop::Fault(Kind::Limit(Which::Letters, letters as u64)));
+    }
+    Ok(())
+}
+
 /// The word of a generator at a place, counted from 0, or the empty word.
-pub(crate) fn letter(alloc: Global, place: Option<usize>) -> Result<Word, Stop>
+pub(crate) fn letter(alloc: Global, place: Option<usize>) -> Result<Recipe, Stop>
     requires { IfSome place (λ k. k < 32) }
     ensures { Given result (Ok (letter_at place)) }
 {
     match place {
-        None => Ok(Word::of(alloc, &[])?),
-        Some(place) => Ok(Word::of(alloc, &[place as i32 + 1])?),
+        None => Ok(Recipe::empty(alloc)),
+        Some(place) => Ok(Recipe::generator(alloc, place)?),
     }
 }
 
-/// The product of factors so far with one more, which grows in place.
-pub(crate) fn joined(before: Word, factor: &Word) -> Result<Word, Stop>
-    ensures { Given result (fits (before ++ factor.now)) }
+/// The product of factors so far with one more.
+pub(crate) fn joined(before: Recipe, factor: Factor) -> Result<Recipe, Stop>
+    ensures { Given result (fits (before ++ factor)) }
 {
-    Ok(extended(before, factor)?)
+    check_letters(before.letters() + factor.letters())?;
+    Ok(before.followed(factor.into_recipe()?)?)
 }
 
-/// The product of factors so far with the generator at a place, counted from 0, which grows in place.
-pub(crate) fn joined_letter(before: Word, place: usize) -> Result<Word, Stop>
+/// The product of factors so far with the generator at a place, counted from 0.
+pub(crate) fn joined_letter(before: Recipe, place: usize) -> Result<Recipe, Stop>
     requires { place < 32 }
     ensures { Given result (fits (before ++ letter_at (Some place))) }
 {
-    Ok(extended_by(before, place as i32 + 1)?)
+    check_letters(before.letters() + 1)?;
+    Ok(before.with_generator(place)?)
 }
 
-/// The product of factors so far with the last one, in no more memory than its letters take.
-pub(crate) fn joined_last(alloc: Global, before: &Word, factor: &Word) -> Result<Word, Stop>
-    ensures { Given result (fits (before.now ++ factor.now)) }
+/// The conjugate of a factor.
+pub(crate) fn conjugated(base: Factor, unit: Recipe) -> Result<Factor, Stop>
+    ensures { Given result (fits (conj base unit)) }
 {
-    Ok(product(alloc, before, factor)?)
-}
-
-/// The conjugate of a word.
-pub(crate) fn conjugated(alloc: Global, base: &Word, unit: &Word) -> Result<Word, Stop>
-    ensures { Given result (fits (conj base.now unit.now)) }
-{
-    Ok(conjugate(alloc, base, unit)?)
+    check_letters(base.letters() + 2 * unit.letters())?;
+    Ok(base.conjugated(unit)?)
 }
 
 /// The commutator of two entries.
-pub(crate) fn commuted(alloc: Global, first: &Word, second: &Word) -> Result<Word, Stop>
-    ensures { Given result (fits (comm first.now second.now)) }
+pub(crate) fn commuted(first: Recipe, second: Recipe) -> Result<Recipe, Stop>
+    ensures { Given result (fits (comm first second)) }
 {
-    Ok(commutator(alloc, first, second)?)
+    check_letters(2 * (first.letters() + second.letters()))?;
+    Ok(first.commuted(second)?)
 }
 
 /// The relator of an equation.
-pub(crate) fn equated(alloc: Global, left: &Word, right: &Word) -> Result<Word, Stop>
-    ensures { Given result (fits (left.now ++ inv right.now)) }
+pub(crate) fn equated(left: Recipe, right: Recipe) -> Result<Recipe, Stop>
+    ensures { Given result (fits (left ++ inv right)) }
 {
-    Ok(product(alloc, left, &inverse(alloc, right)?)?)
+    check_letters(left.letters() + right.letters())?;
+    Ok(left.followed(right.raised(true, 1)?)?)
 }
 
-/// A power of a word, by the exponent's digits and whether a minus is before them.
+/// A power of a factor, by the exponent's digits and whether a minus is before them.
 pub(crate) fn raised(
     alloc: Global,
-    base: &Word,
+    base: Factor,
     negative: bool,
     digits: &[u8],
-) -> Result<Word, Stop>
-    ensures { Given result (raised base.now (signed negative digits.now)) }
+) -> Result<Factor, Stop>
+    ensures { Given result (raised base (signed negative digits.now)) }
 {
     let size = size_of(digits);
     if size > u64::from(EXPONENT) {
         return Err(Stop::Fault(Kind::Limit(Which::Exponent, size)));
     }
-    let size = size as i32;
-    Ok(power(alloc, base, if negative { -size } else { size })?)
+    check_letters(base.letters() * size as usize)?;
+    Ok(base.raised(alloc, negative, size as u32)?)
 }

@@ -5,17 +5,22 @@ ghost use Rattle.lpres_reader.specs.declared.fault.Stop.TheVariants.{NoMemory as
 ghost use Rattle.lpres_reader.specs.declared.fault.Kind.TheVariants.{Syntax as SyntaxFault};
 ghost use Rattle.lpres_reader.specs.Front.{token_of};
 ghost use Rattle.lpres_reader.specs.Faults.{ItemForm};
+ghost use Rattle.lpres_reader.specs.Known.{IsChecked};
+ghost use Rattle.lpres_reader.specs.Presentations.{AreGenerators};
 ghost use Rattle.lpres_reader.specs.Stops.{Refuses};
 ghost use Rattle.lpres_reader.specs.declared.syntax.Outer.TheVariants.{Relators};
 ghost use Rattle.lpres_reader.specs.Forms.{Found, form, unit_form, outer_form, bracket_form, word_form, behind_form, factor_form, exponent_form, form_step, first_form, is_behind, nothing_open};
 
 use crate::fault::{Kind, Stop};
+use crate::known::are_known;
 use crate::token::{Symbol, Token, next_name, next_token};
+use indexmap::IndexSet;
+use pq_base::Name;
 use std::alloc::Global;
 use std::marker::Model;
 
 /// What the next token stands behind.
-#[derive(Clone, Copy, Debug, PartialEq, Eq)]
+#[derive(Clone, Copy)]
 pub(crate) enum Stage {
     /// A comma between arrows, or `endo`.
     Start,
@@ -32,21 +37,21 @@ pub(crate) enum Stage {
 }
 
 /// An open bracket. A square one may have entries already.
-#[derive(Clone, Copy, Debug, PartialEq, Eq)]
+#[derive(Clone, Copy)]
 pub(crate) enum Bracket {
     Round,
     Square(bool),
 }
 
 /// What stands on a line. A relator may have the left side of an equation already.
-#[derive(Clone, Copy, Debug, PartialEq, Eq)]
+#[derive(Clone, Copy)]
 pub(crate) enum Outer {
     Relators(bool),
     Arrows,
 }
 
 /// The brackets that are open.
-#[derive(Debug, Drop)]
+#[derive(Drop)]
 pub(crate) struct Brackets {
     list: Vec<Bracket>,
 }
@@ -89,7 +94,7 @@ impl Brackets {
 }
 
 /// The form of a line so far.
-#[derive(Debug, Drop)]
+#[derive(Drop)]
 pub(crate) struct Form {
     stage: Stage,
     outer: Outer,
@@ -148,12 +153,8 @@ fn relators_step(has_left: bool, brackets: Brackets, symbol: Symbol) -> Result<F
     ensures { Found result (outer_form (Relators has_left) symbol) }
 {
     match symbol {
-        Symbol::Equals => {
-            if has_left {
-                no_form()
-            } else {
-                Ok(form_at(Stage::Before, Outer::Relators(true), brackets))
-            }
+        Symbol::Equals if !has_left => {
+            Ok(form_at(Stage::Before, Outer::Relators(true), brackets))
         }
         Symbol::Comma => Ok(form_at(Stage::Before, Outer::Relators(false), brackets)),
         _ => no_form(),
@@ -274,19 +275,26 @@ fn step(alloc: Global, so_far: Form, token: Token) -> Result<Form, Stop>
 fn is_whole(so_far: Form) -> bool
     ensures { result ≡ (is_behind so_far.stage && nothing_open so_far.brackets) }
 {
-    so_far.stage == Stage::Behind && so_far.brackets.pop().is_none()
+    matches!(so_far.stage, Stage::Behind) && so_far.brackets.pop().is_none()
 }
 
-/// Refuses a line that has no form of an item.
-pub(crate) fn check_form(alloc: Global, line: &[u8]) -> Result<(), Stop>
-    ensures { MatchResult result (λ _. ItemForm line.now) (Refuses (λ k. (k ≡ SyntaxFault) × (¬ ItemForm line.now))) }
+/// Refuses a line that has no form of an item, and tells whether all names behind its first token are generators.
+pub(crate) fn check_form(alloc: Global, names: &IndexSet<Name>, line: &[u8]) -> Result<bool, Stop>
+    requires { AreGenerators names.now.keys }
+    ensures { MatchResult result (IsChecked names.now.keys line.now) (Refuses (λ k. (k ≡ SyntaxFault) × (¬ ItemForm line.now))) }
 {
-    let (keyword, after) = next_name(line)?;
+    let (keyword, behind) = next_name(line)?;
     let mut so_far = begin(alloc, keyword)?;
-    let mut rest = after;
+    let mut known = true;
+    let mut rest = behind;
     while let Some((token, after)) = next_token(rest)? {
         so_far = step(alloc, so_far, token)?;
+        known = are_known(names, known, token);
         rest = after;
     }
-    if is_whole(so_far) { Ok(()) } else { no_form() }
+    if is_whole(so_far) {
+        Ok(known)
+    } else {
+        no_form()
+    }
 }

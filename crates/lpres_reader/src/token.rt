@@ -14,7 +14,7 @@ use crate::line::after_blanks;
 use pq_base::name::{is_letter, is_name_byte};
 
 /// A token that is neither a name nor a number.
-#[derive(Clone, Copy, Debug, PartialEq, Eq)]
+#[derive(Clone, Copy)]
 pub enum Symbol {
     Arrow,
     Star,
@@ -29,7 +29,7 @@ pub enum Symbol {
 }
 
 /// A token, as it stands in its line.
-#[derive(Clone, Copy, Debug)]
+#[derive(Clone, Copy)]
 pub enum Token<'a> {
     Name(&'a [u8]),
     Number(&'a [u8]),
@@ -37,7 +37,7 @@ pub enum Token<'a> {
 }
 
 /// No token begins here.
-#[derive(Clone, Copy, Debug, PartialEq, Eq)]
+#[derive(Clone, Copy)]
 pub struct NoToken;
 
 /// The symbol of one byte, but for the minus.
@@ -57,7 +57,7 @@ fn symbol_of(byte: u8) -> Option<Symbol>
     }
 }
 
-#[tactic(auto, using(crate::proofs::LineLemmas::prefix_le))]
+#[tactic(auto, using(crate::proofs::texts::LineLemmas::prefix_le))]
 fn name_length(line: &[u8]) -> usize
     ensures length { result ≡ prefix_len is_name_byte line.now }
     ensures within { result ≤ length line.now }
@@ -65,7 +65,7 @@ fn name_length(line: &[u8]) -> usize
     line.iter().take_while(|byte| is_name_byte(**byte)).count()
 }
 
-#[tactic(auto, using(crate::proofs::LineLemmas::prefix_le))]
+#[tactic(auto, using(crate::proofs::texts::LineLemmas::prefix_le))]
 fn number_length(line: &[u8]) -> usize
     ensures length { result ≡ prefix_len is_ascii_digit line.now }
     ensures within { result ≤ length line.now }

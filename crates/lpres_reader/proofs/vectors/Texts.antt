@@ -4,7 +4,7 @@ use Rattle.pq_base.specs.LPresentation.{LPresentation}
 use Rattle.lpres_reader.specs.Reads.{Reads}
 use Rattle.lpres_reader.specs.Faults.{Kind, FirstFault}
 use Rattle.lpres_reader.specs.Verdicts.{text_verdict}
-use Rattle.lpres_reader.proofs.ReaderLaws.{verdicts_are_right}
+use Rattle.lpres_reader.proofs.faults.ReaderLaws.{verdicts_are_right}
 
 -- each line with a newline behind it
 abbrev pub text : List (List ℕ) → List ℕ

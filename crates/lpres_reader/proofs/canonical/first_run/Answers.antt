@@ -3,7 +3,7 @@ use Rattle.std.specs.List.{prefix_len}
 use Rattle.std.specs.Ordering.{int_eq}
 use Rattle.std.proofs.lemmas.Int.{to_z-of_z}
 use Rattle.lpres_reader.specs.Runs.{run, runs_of}
-use Rattle.lpres_reader.proofs.RunLaws.{runs_of-next}
+use Rattle.lpres_reader.proofs.canonical_texts.RunLaws.{runs_of-next}
 use Rattle.lpres_reader.proofs.canonical.first_run.Goals as goal
 
 pub returns-clause-run : goal.returns-clause-run

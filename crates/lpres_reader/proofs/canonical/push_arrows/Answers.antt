@@ -2,7 +2,7 @@ use Rattle.std.proofs.Common.{◌≡◌, ◌<◌, ◌+◌, ◌++◌, [], ℕ, �
 use Rattle.std.specs.Global.{Vec}
 use Rattle.std.proofs.lemmas.List.{get_or_read}
 use Rattle.lpres_reader.specs.CanonicalText.{arrow_text}
-use Rattle.lpres_reader.proofs.ArrowTexts.{between, between-some, between-none, arrow_texts-next}
+use Rattle.lpres_reader.proofs.items.ArrowTexts.{between, between-some, between-none, arrow_texts-next}
 use Rattle.lpres_reader.proofs.canonical.push_arrows.Goals as goal
 use Rattle.lpres_reader.proofs.canonical.push_arrows.Goals.{then-place-gt0+in_ok-extend_from_slice, else-place-gt0}
 

@@ -1,6 +1,6 @@
 use Rattle.std.proofs.Common.{◌≡◌, ◌++◌, drop, codes}
 use Rattle.lpres_reader.specs.CanonicalText.{arrow_texts}
-use Rattle.lpres_reader.proofs.ArrowTexts.{left_after}
+use Rattle.lpres_reader.proofs.items.ArrowTexts.{left_after}
 use Rattle.lpres_reader.proofs.canonical.push_arrows.Given as goal
 
 -- what is written, and the arrows that are left, are all

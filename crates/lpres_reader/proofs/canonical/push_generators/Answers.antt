@@ -1,5 +1,5 @@
 use Rattle.std.proofs.Common.{◌≤◌, List, ℕ, length, drop, drop_of_length-le, arith}
-use Rattle.lpres_reader.proofs.WrittenLines.{generators_line-written}
+use Rattle.lpres_reader.proofs.canonical_texts.WrittenLines.{generators_line-written}
 use Rattle.lpres_reader.proofs.canonical.push_generators.Goals as goal
 
 pub returns : goal.returns

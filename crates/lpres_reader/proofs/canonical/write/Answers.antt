@@ -3,9 +3,9 @@ use Rattle.pq_base.specs.LPresentation.{LPresentation}
 use Rattle.pq_base.specs.Name.{IsName}
 use Rattle.lpres_reader.specs.CanonicalText.{canonical_text}
 use Rattle.lpres_reader.specs.Reads.{Reads}
-use Rattle.lpres_reader.proofs.CanonicalLengths.{canonical_texts_are_short}
-use Rattle.lpres_reader.proofs.CanonicalReads.{canonical_texts_read_back}
-use Rattle.lpres_reader.proofs.WrittenLines.{canonical_text-written}
+use Rattle.lpres_reader.proofs.canonical_texts.CanonicalLengths.{canonical_texts_are_short}
+use Rattle.lpres_reader.proofs.canonical_texts.CanonicalReads.{canonical_texts_read_back}
+use Rattle.lpres_reader.proofs.canonical_texts.WrittenLines.{canonical_text-written}
 use Rattle.lpres_reader.proofs.canonical.write.Goals as goal
 
 pub returns : goal.returns

@@ -1,5 +1,5 @@
 use Rattle.std.proofs.Common.{arith}
-use Rattle.lpres_reader.proofs.Depths.{depth_first, depth_next, depth_over, depth_end}
+use Rattle.lpres_reader.proofs.texts.Depths.{depth_first, depth_next, depth_over, depth_end}
 use Rattle.lpres_reader.proofs.depth.is_shallow.Goals as goal
 
 pub loop-byte-init : goal.loop-byte-init

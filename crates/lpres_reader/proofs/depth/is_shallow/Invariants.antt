@@ -1,4 +1,4 @@
-use Rattle.lpres_reader.proofs.Depths.{DepthAt}
+use Rattle.lpres_reader.proofs.texts.Depths.{DepthAt}
 use Rattle.lpres_reader.proofs.depth.is_shallow.Given as goal
 
 abbrev pub invariant-loop-byte : goal.invariant-loop-byte

@@ -1,5 +1,5 @@
 use Rattle.std.proofs.Common.{get_or, ◌∙◌, arith}
-use Rattle.lpres_reader.proofs.Exponents.{told_on, told_next, told_end}
+use Rattle.lpres_reader.proofs.texts.Exponents.{told_on, told_next, told_end}
 use Rattle.lpres_reader.proofs.exponent.size_of.Goals as goal
 
 pub loop-digit-preserved : goal.loop-digit-preserved

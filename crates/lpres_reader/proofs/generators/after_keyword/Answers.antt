@@ -4,8 +4,8 @@ use Rattle.std.specs.Cmp.Lexicographic.{bytes_decides}
 use Rattle.std.proofs.lemmas.Result.{err_from_is_err_and}
 use Rattle.lpres_reader.specs.Tokens.{name}
 use Rattle.lpres_reader.specs.Front.{token_first}
-use Rattle.lpres_reader.proofs.Refusing.{refuses_map}
-use Rattle.lpres_reader.proofs.GeneratorLines.{line_names-keyword, line_names-other, line_names-unnamed}
+use Rattle.lpres_reader.proofs.faults.Refusing.{refuses_map}
+use Rattle.lpres_reader.proofs.names.GeneratorLines.{line_names-keyword, line_names-other, line_names-unnamed}
 use Rattle.lpres_reader.proofs.generators.after_keyword.Goals as goal
 
 pub returns-in_err-keyword : goal.returns-in_err-keyword

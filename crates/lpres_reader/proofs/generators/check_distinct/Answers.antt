@@ -5,7 +5,7 @@ use Rattle.pq_base.specs.LPresentation.{AreDistinct}
 use Rattle.std.proofs.lemmas.Bool.{not-false, not-true}
 use Rattle.std.proofs.lemmas.List.{take_all, take_more}
 use Rattle.lpres_reader.specs.GeneratorNames.{texts_of}
-use Rattle.lpres_reader.proofs.SeenTexts.{same_text, seen_distinct, seen_again}
+use Rattle.lpres_reader.proofs.texts.SeenTexts.{same_text, seen_distinct, seen_again}
 use Rattle.lpres_reader.proofs.generators.check_distinct.Goals as goal
 
 -- stands for the text at no place

@@ -1,9 +1,9 @@
 use Rattle.std.proofs.Common.{refl, ◌∙◌, arith}
 use Rattle.std.proofs.lemmas.Result.{err_from_is_err_and}
 use Rattle.lpres_reader.specs.Tokens.{name, number, symbol}
-use Rattle.lpres_reader.proofs.FrontLemmas.{rest_is_shorter}
-use Rattle.lpres_reader.proofs.Refusing.{refuses_map}
-use Rattle.lpres_reader.proofs.GeneratorLines.{names_on-token_first}
+use Rattle.lpres_reader.proofs.texts.FrontLemmas.{rest_is_shorter}
+use Rattle.lpres_reader.proofs.faults.Refusing.{refuses_map}
+use Rattle.lpres_reader.proofs.names.GeneratorLines.{names_on-token_first}
 use Rattle.lpres_reader.proofs.generators.name_behind.Goals as goal
 
 pub returns-in-Name : goal.returns-in-Name

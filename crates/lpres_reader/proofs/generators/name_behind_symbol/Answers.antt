@@ -2,9 +2,9 @@ use Rattle.std.proofs.Common.{ap, refl, ◌∙◌}
 use Rattle.lpres_reader.specs.declared.token.Symbol.{Symbol}
 use Rattle.lpres_reader.specs.Tokens.{name, symbol}
 use Rattle.lpres_reader.specs.GeneratorNames.{names_from}
-use Rattle.lpres_reader.proofs.FrontLemmas.{rest_is_shorter}
-use Rattle.lpres_reader.proofs.HandedOn.{result_map}
-use Rattle.lpres_reader.proofs.GeneratorLines.{names_from-symbol, names_at-name, names_at-unnamed}
+use Rattle.lpres_reader.proofs.texts.FrontLemmas.{rest_is_shorter}
+use Rattle.lpres_reader.proofs.faults.HandedOn.{result_map}
+use Rattle.lpres_reader.proofs.names.GeneratorLines.{names_from-symbol, names_at-name, names_at-unnamed}
 use Rattle.lpres_reader.proofs.generators.name_behind_symbol.Goals as goal
 
 pub returns-in-Comma : goal.returns-in-Comma

@@ -1,6 +1,6 @@
 use Rattle.std.proofs.Common.{[], ◌∷◌, ◌++◌, ap, ◌∙◌}
-use Rattle.lpres_reader.proofs.GeneratorLines.{names_at-name}
-use Rattle.lpres_reader.proofs.LineTexts.{first_text, next_text}
+use Rattle.lpres_reader.proofs.names.GeneratorLines.{names_at-name}
+use Rattle.lpres_reader.proofs.texts.LineTexts.{first_text, next_text}
 use Rattle.lpres_reader.proofs.generators.name_texts.Goals as goal
 
 pub loop-texts-init : goal.loop-texts-init

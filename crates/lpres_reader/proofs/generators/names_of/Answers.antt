@@ -3,7 +3,7 @@ use Rattle.std.specs.Borrow.{Bor}
 use Rattle.pq_base.specs.Name.{IsName}
 use Rattle.lpres_reader.specs.Faults.{Limit}
 use Rattle.lpres_reader.specs.Trials.{tried, Name, Generators}
-use Rattle.lpres_reader.proofs.NamesSoFar.{names_first, names_next, names_end, name_too_long, names_too_many}
+use Rattle.lpres_reader.proofs.names.NamesSoFar.{names_first, names_next, names_end, name_too_long, names_too_many}
 use Rattle.lpres_reader.proofs.generators.names_of.Goals as goal
 
 -- stands for the text at no place

@@ -1,5 +1,5 @@
 -- The names so far are the texts so far, and keep all limits.
-use Rattle.lpres_reader.proofs.NamesSoFar.{NamesSoFar}
+use Rattle.lpres_reader.proofs.names.NamesSoFar.{NamesSoFar}
 use Rattle.lpres_reader.proofs.generators.names_of.Given as goal
 
 abbrev pub invariant-loop-text : goal.invariant-loop-text

@@ -4,7 +4,7 @@ use Rattle.lpres_reader.specs.Limits.{IsWithinLimits}
 use Rattle.lpres_reader.specs.Makes.{MakesNames}
 use Rattle.lpres_reader.specs.Presentations.{AreGenerators}
 use Rattle.lpres_reader.specs.Verdicts.{bare}
-use Rattle.lpres_reader.proofs.FirstLines.{made_bare, bare_is_presentation}
+use Rattle.lpres_reader.proofs.faults.FirstLines.{made_bare, bare_is_presentation}
 use Rattle.lpres_reader.proofs.generators.read_first.Goals as goal
 
 pub of_parts-pres-requires : goal.of_parts-pres-requires

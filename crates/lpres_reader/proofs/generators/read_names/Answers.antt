@@ -9,10 +9,10 @@ use Rattle.lpres_reader.specs.Makes.{Makes}
 use Rattle.lpres_reader.specs.Stops.{kind_of}
 use Rattle.lpres_reader.specs.Verdicts.{bare}
 use Rattle.lpres_reader.specs.GeneratorNames.{line_names, texts_of}
-use Rattle.lpres_reader.proofs.Refusing.{refuses_map}
-use Rattle.lpres_reader.proofs.HandedOn.{result_map}
-use Rattle.lpres_reader.proofs.GeneratorLines.{line_names-are}
-use Rattle.lpres_reader.proofs.FirstLines.{form_fault, repeated_fault, limit_fault, names_made}
+use Rattle.lpres_reader.proofs.faults.Refusing.{refuses_map}
+use Rattle.lpres_reader.proofs.faults.HandedOn.{result_map}
+use Rattle.lpres_reader.proofs.names.GeneratorLines.{line_names-are}
+use Rattle.lpres_reader.proofs.faults.FirstLines.{form_fault, repeated_fault, limit_fault, names_made}
 use Rattle.lpres_reader.proofs.generators.read_names.Goals as goal
 
 pub returns-in_err-texts : goal.returns-in_err-texts

@@ -1,5 +1,5 @@
 use Rattle.std.specs.Prelude.{option_map}
-use Rattle.lpres_reader.proofs.ImageArrows.{FoundSo}
+use Rattle.lpres_reader.proofs.items.ImageArrows.{FoundSo}
 use Rattle.lpres_reader.proofs.images.image_of.Given as goal
 
 abbrev pub invariant-loop-arrow : goal.invariant-loop-arrow

@@ -1,4 +1,4 @@
-use Rattle.lpres_reader.proofs.ImageArrows.{ImagesTo}
+use Rattle.lpres_reader.proofs.items.ImageArrows.{ImagesTo}
 use Rattle.lpres_reader.proofs.images.images.Given as goal
 
 abbrev pub invariant-loop-place : goal.invariant-loop-place

@@ -1,8 +1,8 @@
 use Rattle.std.proofs.lemmas.Result.{err_from_is_err_and}
 use Rattle.lpres_reader.specs.Front.{token_of}
-use Rattle.lpres_reader.proofs.FrontLemmas.{rest_is_shorter}
-use Rattle.lpres_reader.proofs.LineTokens.{none_left}
-use Rattle.lpres_reader.proofs.ValueRuns.{runs_first, runs_next, runs_joined, runs_shorten, runs_to_refused, runs_stopped, runs_nowhere, runs_to_end, given_same, given_stop}
+use Rattle.lpres_reader.proofs.texts.FrontLemmas.{rest_is_shorter}
+use Rattle.lpres_reader.proofs.texts.LineTokens.{none_left}
+use Rattle.lpres_reader.proofs.recipes.ValueRuns.{runs_first, runs_next, runs_joined, runs_shorten, runs_to_refused, runs_stopped, runs_nowhere, runs_to_end, given_same, given_stop}
 use Rattle.lpres_reader.proofs.item.gather.Goals as goal
 
 pub loop-so_far-init : goal.loop-so_far-init

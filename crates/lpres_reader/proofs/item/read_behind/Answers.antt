@@ -1,7 +1,7 @@
 use Rattle.std.proofs.Common.{subst}
 use Rattle.pq_base.specs.LPresentation.{IsLPresentation}
 use Rattle.lpres_reader.specs.Limits.{IsWithinLimits}
-use Rattle.lpres_reader.proofs.ItemMakes.{adds_soundly, makes_or_misses}
+use Rattle.lpres_reader.proofs.items.ItemMakes.{adds_soundly, makes_or_misses}
 use Rattle.lpres_reader.proofs.item.read_behind.Goals as goal
 
 pub with-requires : goal.with-requires

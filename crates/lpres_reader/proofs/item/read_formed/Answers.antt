@@ -2,7 +2,7 @@ use Rattle.std.proofs.Common.{List, ℕ, subst}
 use Rattle.std.proofs.lemmas.Result.{err_from_is_err_and}
 use Rattle.pq_base.specs.LPresentation.{AreDistinct}
 use Rattle.lpres_reader.specs.Values.{RunsTo}
-use Rattle.lpres_reader.proofs.ItemReads.{unbegun_gives, formed_gives, unnamed_gives}
+use Rattle.lpres_reader.proofs.items.ItemReads.{unbegun_gives, formed_gives, unnamed_gives}
 use Rattle.lpres_reader.proofs.item.read_formed.Goals as goal
 
 pub returns-in_err-keyword : goal.returns-in_err-keyword

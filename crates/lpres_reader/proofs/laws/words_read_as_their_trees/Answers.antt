@@ -1,5 +1,5 @@
 use Rattle.lpres_reader.proofs.laws.words_read_as_their_trees.Goals as goal
-use Rattle.lpres_reader.proofs.TreeReads as law
+use Rattle.lpres_reader.proofs.trees.TreeReads as law
 
 pub returns : goal.returns
 returns c = law.words_read_as_their_trees

@@ -1,7 +1,7 @@
 use Rattle.std.proofs.Common.{◌≡◌, ℕ, List, ◌∷◌, ◌+◌, ◌-◌, length, take, drop, sym, ap, ◌∙◌, arith}
 use Rattle.std.proofs.lemmas.List.{take_all, length-drop}
 use Rattle.lpres_reader.specs.Lines.{lines_of}
-use Rattle.lpres_reader.proofs.LineLemmas.{lines_of-last, lines_of-first}
+use Rattle.lpres_reader.proofs.texts.LineLemmas.{lines_of-last, lines_of-first}
 use Rattle.lpres_reader.proofs.line.cut_line.Goals as goal
 
 pub returns-in-None-clause-lines : goal.returns-in-None-clause-lines

@@ -1,5 +1,5 @@
 use Rattle.std.proofs.Common.{arith}
-use Rattle.lpres_reader.proofs.LineLemmas.{skipped_nothing, skipped_byte}
+use Rattle.lpres_reader.proofs.texts.LineLemmas.{skipped_nothing, skipped_byte}
 use Rattle.lpres_reader.proofs.line.is_skipped.Goals as goal
 
 pub returns-in-empty : goal.returns-in-empty

@@ -1,6 +1,6 @@
 use Rattle.std.proofs.Common.{◌≡◌, map, length, ◌∙◌, arith}
-use Rattle.lpres_reader.proofs.EndoPlaces.{items_at, items_within}
-use Rattle.lpres_reader.proofs.KeptWords.{one_endo_more, images_not_kept, images_missing}
+use Rattle.lpres_reader.proofs.items.EndoPlaces.{items_at, items_within}
+use Rattle.lpres_reader.proofs.items.KeptWords.{one_endo_more, images_not_kept, images_missing}
 use Rattle.lpres_reader.proofs.parts.endo_letters.Goals as goal
 
 pub returns-then-len-generators : goal.returns-then-len-generators

@@ -1,8 +1,8 @@
 use Rattle.std.proofs.Common.{pos, [], ◌∷◌, get_or, take, FitsSigned, w32, rules}
 use Rattle.std.proofs.lemmas.Int.{to_z-of_z}
 use Rattle.std.proofs.lemmas.List.{take_more}
-use Rattle.pq_base.proofs.LetterLaws.{HasLetters-append}
-use Rattle.pq_base.proofs.LetterLaws.{IsLetter-get_or}
+use Rattle.pq_base.proofs.words.LetterLaws.{HasLetters-append}
+use Rattle.pq_base.proofs.words.LetterLaws.{IsLetter-get_or}
 use Rattle.lpres_reader.proofs.parts.is_over.Goals as goal
 
 pub returns-then-not-is_letter : goal.returns-then-not-is_letter

@@ -1,6 +1,6 @@
 use Rattle.std.proofs.Common.{◌≡◌, [], get_or, sym, ◌∙◌}
 use Rattle.std.proofs.lemmas.List.{get_or_default}
-use Rattle.lpres_reader.proofs.KeptWords.{one_word_more, too_many_letters, word_not_over}
+use Rattle.lpres_reader.proofs.items.KeptWords.{one_word_more, too_many_letters, word_not_over}
 use Rattle.lpres_reader.proofs.parts.word_letters.Goals as goal
 use Rattle.lpres_reader.proofs.parts.word_letters.Goals.{then-letters-gt-TOTAL-via-then-letters-gt-TOTAL, then-letters-gt-TOTAL-via-else-letters-gt-TOTAL+then-not-is_over}
 

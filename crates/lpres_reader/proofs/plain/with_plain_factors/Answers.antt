@@ -1,6 +1,6 @@
 use Rattle.std.proofs.lemmas.Result.{err_from_is_err_and}
-use Rattle.lpres_reader.proofs.ValueRuns.{runs_first}
-use Rattle.lpres_reader.proofs.PlainRuns.{rest_behind_plain, plain_taken, plain_refused}
+use Rattle.lpres_reader.proofs.recipes.ValueRuns.{runs_first}
+use Rattle.lpres_reader.proofs.recipes.PlainRuns.{rest_behind_plain, plain_taken, plain_refused}
 use Rattle.lpres_reader.proofs.plain.with_plain_factors.Goals as goal
 
 pub loop-place-init : goal.loop-place-init

@@ -1,7 +1,7 @@
 use Rattle.std.proofs.Common.{ℕ, List, Option, option_map, refl, sym, subst, ◌∙◌}
 use Rattle.std.specs.Borrow.{Bor}
-use Rattle.lpres_reader.proofs.TextRuns.{cut_left}
-use Rattle.lpres_reader.proofs.GeneratorSearch.{NoneSoFar, begins_here, begins_later, begins_nowhere}
+use Rattle.lpres_reader.proofs.texts.TextRuns.{cut_left}
+use Rattle.lpres_reader.proofs.names.GeneratorSearch.{NoneSoFar, begins_here, begins_later, begins_nowhere}
 use Rattle.lpres_reader.proofs.reading.has_generators.Goals as goal
 
 pub loop-left-init : goal.loop-left-init

@@ -1,7 +1,7 @@
 -- None of the lines so far begins with `generators`; each line shortens what is left.
 use Rattle.std.proofs.Common.{option_map}
-use Rattle.lpres_reader.proofs.GeneratorSearch.{NoneSoFar}
-use Rattle.lpres_reader.proofs.TextRuns.{size_left}
+use Rattle.lpres_reader.proofs.names.GeneratorSearch.{NoneSoFar}
+use Rattle.lpres_reader.proofs.texts.TextRuns.{size_left}
 use Rattle.lpres_reader.proofs.reading.has_generators.Given as goal
 
 abbrev pub invariant-loop-left : goal.invariant-loop-left

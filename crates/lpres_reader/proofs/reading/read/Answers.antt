@@ -1,7 +1,7 @@
 use Rattle.std.proofs.Common.{sym, ◌∙◌}
 use Rattle.std.proofs.lemmas.Bool.{true≢false}
-use Rattle.lpres_reader.proofs.LineTokens.{none_left}
-use Rattle.lpres_reader.proofs.GeneratorSearch.{nothing_begins}
+use Rattle.lpres_reader.proofs.texts.LineTokens.{none_left}
+use Rattle.lpres_reader.proofs.names.GeneratorSearch.{nothing_begins}
 use Rattle.lpres_reader.proofs.reading.read.Goals as goal
 use Rattle.lpres_reader.proofs.reading.read.Goals.{then-has_generators+in_ok-named+in_default, else-has_generators}
 

@@ -6,7 +6,7 @@ use Rattle.lpres_reader.specs.Makes.{Makes}
 use Rattle.lpres_reader.specs.Faults.{LineFault}
 use Rattle.lpres_reader.specs.Stops.{kind_of}
 use Rattle.lpres_reader.specs.NextLine.{made}
-use Rattle.lpres_reader.proofs.Refusing.{refuses_map}
+use Rattle.lpres_reader.proofs.faults.Refusing.{refuses_map}
 use Rattle.lpres_reader.proofs.reading.read_line.Goals as goal
 
 pub returns-in_ok-read_first-in-None : goal.returns-in_ok-read_first-in-None

@@ -1,7 +1,7 @@
 use Rattle.std.proofs.Common.{◌≤◌, ℕ, List, Option, option_map, length, sym, subst, arith}
 use Rattle.std.specs.Borrow.{Bor}
 use Rattle.lpres_reader.specs.Refusals.{IsRefusedBy}
-use Rattle.lpres_reader.proofs.TextRuns.{ReadSoFar, nothing_read, line_read, count_small, refused_here, all_read, cut_left}
+use Rattle.lpres_reader.proofs.texts.TextRuns.{ReadSoFar, nothing_read, line_read, count_small, refused_here, all_read, cut_left}
 use Rattle.lpres_reader.proofs.reading.read_lines.Goals as goal
 
 pub loop-left-init : goal.loop-left-init

@@ -1,6 +1,6 @@
 -- The lines so far lead to what is read so far; each line shortens what is left.
 use Rattle.std.proofs.Common.{option_map}
-use Rattle.lpres_reader.proofs.TextRuns.{ReadSoFar, size_left}
+use Rattle.lpres_reader.proofs.texts.TextRuns.{ReadSoFar, size_left}
 use Rattle.lpres_reader.proofs.reading.read_lines.Given as goal
 
 abbrev pub invariant-loop-left : goal.invariant-loop-left

@@ -1,6 +1,6 @@
 use Rattle.std.proofs.Common.{arith, ◌∙◌}
 use Rattle.std.proofs.lemmas.Result.{err_from_is_err_and}
-use Rattle.lpres_reader.proofs.LineLemmas.{front_nothing, front_byte}
+use Rattle.lpres_reader.proofs.texts.LineLemmas.{front_nothing, front_byte}
 use Rattle.lpres_reader.proofs.token.next_token.Goals as goal
 
 pub returns-in-empty : goal.returns-in-empty

@@ -2,10 +2,10 @@ use Rattle.std.proofs.Common.{◌≡◌, ◌≤◌, [], ◌∷◌, List, ℤ, le
 use Rattle.std.proofs.lemmas.Result.{err_from_is_err_and}
 use Rattle.pq_base.specs.SignedWord.{sub}
 use Rattle.pq_base.specs.LPresentation.{endo_at}
-use Rattle.pq_base.proofs.LetterLaws.{HasLetters-sub}
+use Rattle.pq_base.proofs.words.LetterLaws.{HasLetters-sub}
 use Rattle.lpres_reader.specs.Words.{letter_limit}
-use Rattle.lpres_reader.proofs.EndoPlaces.{AreEndoNumbers-append_left, AreEndoNumbers-append_right}
-use Rattle.lpres_reader.proofs.Suffixes.{along_more, along_refused}
+use Rattle.lpres_reader.proofs.items.EndoPlaces.{AreEndoNumbers-append_left, AreEndoNumbers-append_right}
+use Rattle.lpres_reader.proofs.items.Suffixes.{along_more, along_refused}
 use Rattle.lpres_reader.proofs.word_along.along.Goals as goal
 
 pub endo-requires : goal.endo-requires

@@ -1,7 +1,7 @@
 use Rattle.std.proofs.Common.{length}
 use Rattle.pq_base.specs.SignedWord.{HasLetters}
 use Rattle.pq_base.specs.LPresentation.{AreEndoNumbers}
-use Rattle.lpres_reader.proofs.Suffixes.{AlongSoFar}
+use Rattle.lpres_reader.proofs.items.Suffixes.{AlongSoFar}
 use Rattle.lpres_reader.proofs.word_along.along.Given as goal
 
 -- the image along the numbers that are taken off

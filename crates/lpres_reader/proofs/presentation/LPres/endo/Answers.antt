@@ -1,7 +1,7 @@
 use Rattle.std.proofs.Common.{◌≡◌, [], ◌∷◌, List, ℤ, map, length, ap, subst, sym, ◌∙◌}
 use Rattle.pq_base.specs.LPresentation.{LPresentation, IsLPresentation, AreEndoNumbers, AreWords, endo_at}
-use Rattle.pq_base.proofs.AlongLaws.{AreWords-endo_at}
-use Rattle.lpres_reader.proofs.EndoPlaces.{length-endo_at, endo_at-place}
+use Rattle.pq_base.proofs.words.AlongLaws.{AreWords-endo_at}
+use Rattle.lpres_reader.proofs.items.EndoPlaces.{length-endo_at, endo_at-place}
 use Rattle.lpres_reader.proofs.presentation.LPres.endo.Goals as goal
 
 images : (c : goal.After-as_slice) → c.as_slice.result.now ≡ endo_at c.args.self.now.endos c.args.number

@@ -2,7 +2,7 @@ use Rattle.std.proofs.Common.{ℕ, List, length, sym, subst, ◌∙◌}
 use Rattle.lpres_reader.specs.declared.gathered.Arrow.{Arrow}
 use Rattle.lpres_reader.specs.Arrows.{mappings}
 use Rattle.lpres_reader.specs.Items.{GivesEach}
-use Rattle.lpres_reader.proofs.Adding.{adds_fixed, adds_iterated, adds_images}
+use Rattle.lpres_reader.proofs.items.Adding.{adds_fixed, adds_iterated, adds_images}
 use Rattle.lpres_reader.proofs.presentation.LPres.with.Goals as goal
 
 pub with_fixed-requires-clause-presentation : goal.with_fixed-requires-clause-presentation

@@ -1,12 +1,13 @@
 -- The lines of an answer all have the form of a line in their place, up to the end.
 use Rattle.std.proofs.Common.{◌≡◌, ◌<◌, ◌≤◌, ◌+◌, ℕ, zero, suc, List, [], ◌∷◌, ◌++◌, get_or, length, refl, sym, subst, inl, inr, arith}
 use Rattle.std.specs.Prelude.{codes}
+use Rattle.pq_base.specs.Limits.{max_rank}
 use Rattle.pq_base.specs.Name.{IsName}
 use Rattle.pq_base.specs.Table.{AllBelow}
 use Rattle.pq_base.specs.Answer.{Answer, Definition, HasDefinition, AreNormal, class_of, definition_at}
 use Rattle.pq_base.specs.Answer.Definition.{image, commutator, power}
 use Rattle.pc_presentation.specs.Syllable.{syllables_of}
-use Rattle.pc_presentation.proofs.SyllableLaws.{AreSyllables-syllables_of}
+use Rattle.pc_presentation.proofs.presentations.SyllableLaws.{AreSyllables-syllables_of}
 use Rattle.answer_text.specs.AnswerText.{answer_lines, answer_text, generator_lines, power_lines, commutator_lines, image_lines}
 use Rattle.answer_text.specs.OneText.{AreNames, IsWritable}
 use Rattle.answer_text.specs.AnswerPlaces.{IsScale}
@@ -15,7 +16,7 @@ use Rattle.answer_text.specs.AnswerPlaces.HasForm.{prime, class, rank, order, im
 use Rattle.answer_text.specs.AnswerFaults.{IsWhole, FaultsAreNoAnswers}
 use Rattle.answer_text.specs.BodyRead.{Leads}
 use Rattle.answer_text.proofs.OneText.{last-small}
-use Rattle.answer_text.proofs.LineLeads.{AreFit, ArePowers, AreRow, AreRows, IsFit, IsWhole-Leads, Leads-append, generators-lead, powers-reach, rows-reach}
+use Rattle.answer_text.proofs.lines.LineLeads.{AreFit, ArePowers, AreRow, AreRows, IsFit, IsWhole-Leads, Leads-append, generators-lead, powers-reach, rows-reach}
 
 images-lead : (p n m : ℕ) (names es : List (List ℕ)) → IsScale p n → AreNames names → AreNormal p n es → Leads (in_body p n zero m) (image_lines names es ++ codes "end" ∷ []) at_end
 images-lead p n m [] es z a b = (at_end, last p n m, refl)
@@ -77,7 +78,7 @@ body-lead : (A : Answer) → IsWritable A → Leads (in_body A.presentation.prim
 body-lead A w =
     let p : ℕ = A.presentation.prime in
     let n : ℕ = A.presentation.rank in
-    let limit : n ≤ 100 = w.rank_limit in
+    let limit : n ≤ max_rank = w.rank_limit in
     let z : IsScale p n = record { offered = w.prime; limit = limit } in
     let is = w.answer.presentation in
     let power_count : length A.presentation.powers ≡ n = is.power_count in
@@ -96,7 +97,7 @@ answer-leads : (A : Answer) → IsWritable A → Leads for_prime (answer_lines A
 answer-leads A w =
     let p : ℕ = A.presentation.prime in
     let n : ℕ = A.presentation.rank in
-    let limit : n ≤ 100 = w.rank_limit in
+    let limit : n ≤ max_rank = w.rank_limit in
     let z : IsScale p n = record { offered = w.prime; limit = limit } in
     let count : length A.weights ≡ n = w.answer.weight_count in
     let definition_count : length A.definitions ≡ n = w.answer.definition_count in

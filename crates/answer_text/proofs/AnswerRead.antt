@@ -1,22 +1,24 @@
 -- What was read of an answer's text is the answer: the text tells each part that the reader takes from it.
 use Rattle.std.proofs.Common.{◌≡◌, ◌<◌, ◌≤◌, ℕ, zero, suc, List, [], ◌∷◌, ◌++◌, get_or, length, map, refl, ap, sym, subst, ◌∙◌, arith}
+use Rattle.pq_base.specs.Limits.{max_class, max_rank}
 use Rattle.pq_base.specs.Presentation.{Presentation, IsPresentation}
 use Rattle.pq_base.specs.Answer.{Answer, Definition, HasDefinition, AreWeights, AreNormal, class_of, definition_at}
 use Rattle.pq_base.specs.Answer.Definition.{image, commutator, power}
+use Rattle.pq_base.specs.Lines.{text_of_lines}
+use Rattle.pq_base.proofs.PrimeLaws.{offered-small}
+use Rattle.pq_base.proofs.Restrictions.{same_presentations}
 use Rattle.answer_text.specs.declared.source.Source.{Source}
-use Rattle.answer_text.specs.Lines.{text_of_lines}
 use Rattle.answer_text.specs.AnswerText.{answer_text, head_lines, power_text, power_lines, commutator_text, commutator_lines}
 use Rattle.answer_text.specs.OneText.{AreNames, IsWritable}
 use Rattle.answer_text.specs.AnswerPlaces.{IsScale, IsSource}
-use Rattle.answer_text.proofs.AnswerLines.{answer_text-parts}
-use Rattle.answer_text.proofs.RelationTexts.{NoRelation, SidesAlike, RowsAlike, power-commutator-apart}
+use Rattle.answer_text.proofs.lines.AnswerLines.{answer_text-parts}
+use Rattle.answer_text.proofs.texts.RelationTexts.{NoRelation, SidesAlike, RowsAlike, power-commutator-apart}
 use Rattle.answer_text.proofs.RelationsTold.{AreShortRows, powers-same, rows-same, NoRelation-rows}
 use Rattle.answer_text.proofs.ImagesTold.{images_text, NoRelation-images, images-same}
 use Rattle.answer_text.proofs.HeadTold.{head-same}
-use Rattle.answer_text.proofs.FormLaws.{offered-small}
 use Rattle.answer_text.proofs.AnswerForm.{nth-name}
-use Rattle.answer_text.proofs.OneText.{powers-alike, commutators-alike, short-rows, presentation-same, answer-same, last-small}
-use Rattle.answer_text.proofs.SourceLines.{source_lines, AreSources, sources-same, source_of, AreResolved, IsKnown, AreKnown, AreResolved-same, generator_lines-sources}
+use Rattle.answer_text.proofs.OneText.{powers-alike, commutators-alike, short-rows, answer-same, last-small}
+use Rattle.answer_text.proofs.lines.SourceLines.{source_lines, AreSources, sources-same, source_of, AreResolved, IsKnown, AreKnown, AreResolved-same, generator_lines-sources}
 
 -- the text of relations and images
 abbrev pub body_text : ℕ → Presentation → List (List ℕ) → List (List ℕ) → List ℕ
@@ -42,11 +44,11 @@ body-same : (p n : ℕ) (P Q : Presentation) (names others es fs : List (List �
 body-same p n P Q names others es fs a b h =
     let low : p < 8 = offered-small p a.scale.offered in
     let small : p < 100 = omega arith in
-    let limit : n ≤ 100 = a.scale.limit in
+    let limit : n ≤ max_rank = a.scale.limit in
     let left_rank : P.rank ≡ n = a.rank in
     let right_rank : Q.rank ≡ n = b.rank in
-    let inside : P.rank ≤ 100 = omega arith in
-    let also : Q.rank ≤ 100 = omega arith in
+    let inside : P.rank ≤ max_rank = omega arith in
+    let also : Q.rank ≤ max_rank = omega arith in
     let prime : P.prime ≡ Q.prime = a.prime ∙ sym b.prime in
     let rank : P.rank ≡ Q.rank = a.rank ∙ sym b.rank in
     let short = short-rows P inside a.presentation in
@@ -60,7 +62,7 @@ body-same p n P Q names others es fs a b h =
     (subst (λ (x : ℕ). RowsAlike x P.commutators Q.commutators) a.prime (commutators-alike P Q prime rank inside a.presentation b.presentation)) short brief
     (λ j i l m. NoRelation-images (commutator_text (suc j) (suc i)) names es) (λ j i l m. NoRelation-images (commutator_text (suc j) (suc i)) others fs) pows.1 in
     let imgs = images-same p n names es others fs small limit a.names b.names a.count b.count a.normal b.normal comms.1 in
-    (presentation-same P Q prime rank pows.0 comms.0, imgs.0, imgs.1)
+    (same_presentations P Q prime rank pows.0 comms.0, imgs.0, imgs.1)
 
 -- what a text says, part by part
 abbrev pub read_text : ℕ → ℕ → ℕ → List ℕ → List Source → Presentation → List (List ℕ) → List (List ℕ) → List ℕ
@@ -106,7 +108,7 @@ IsBody-answer A w = record {
 }
 
 -- an answer with this text is the answer of these parts
-pub answer-told : (A : Answer) (p c n : ℕ) (ws : List ℕ) (ss : List Source) (P : Presentation) (names es : List (List ℕ)) (ds : List Definition) → IsWritable A → c ≤ 60
+pub answer-told : (A : Answer) (p c n : ℕ) (ws : List ℕ) (ss : List Source) (P : Presentation) (names es : List (List ℕ)) (ds : List Definition) → IsWritable A → c ≤ max_class
     → IsBody p n P names es → length ws ≡ n → length ss ≡ n → AreSources n ws ss → AreResolved names ss ds
     → answer_text A ≡ read_text p c n ws ss P names es → A ≡ record { presentation = P; weights = ws; names = names; definitions = ds; images = es }
 answer-told A p c n ws ss P names es ds w class body weights sources are resolved h =
@@ -114,9 +116,9 @@ answer-told A p c n ws ss P names es ds w class body weights sources are resolve
     let m : ℕ = A.presentation.rank in
     let low : q < 8 = offered-small q w.prime in
     let small : p < 8 = offered-small p body.scale.offered in
-    let limit : m ≤ 100 = w.rank_limit in
-    let inside : n ≤ 100 = body.scale.limit in
-    let last : class_of A ≤ 60 = last-small 1 A.weights w.answer.weights in
+    let limit : m ≤ max_rank = w.rank_limit in
+    let inside : n ≤ max_rank = body.scale.limit in
+    let last : class_of A ≤ max_class = last-small 1 A.weights w.answer.weights in
     let known : AreKnown A.names A.definitions =
     AreKnown-each A.names A.definitions (λ k l. let count : length A.definitions ≡ m = w.answer.definition_count in (known-source A k (definition_at A k) (omega arith) w (w.answer.definitions k (omega arith))).0) in
     let fit : AreSources m A.weights (map (source_of A.names) A.definitions) =

@@ -2,14 +2,15 @@
 use Rattle.std.proofs.Common.{◌≡◌, ◌<◌, ◌≤◌, ◌+◌, ℕ, List, [], ◌∷◌, ◌++◌, length, refl, ap, ap₂, sym, subst, ◌∙◌, inl, inr, arith, append_assoc, append-nil, length-append}
 use Rattle.std.specs.Prelude.{None}
 use Rattle.std.proofs.lemmas.List.Elements.{All-push}
+use Rattle.pq_base.specs.Limits.{max_rank}
 use Rattle.pq_base.specs.Name.{IsName}
+use Rattle.pq_base.specs.Lines.{text_of_lines}
 use Rattle.pc_presentation.specs.declared.syllable.Syllable.{Syllable}
 use Rattle.pc_presentation.specs.declared.relation.Relation.{Relation}
 use Rattle.pc_presentation.specs.declared.relation.Relation.TheVariants.{Power, Commutator}
 use Rattle.pc_presentation.specs.Syllable.{AreSyllables}
 use Rattle.pc_presentation.specs.Relation.{IsRelation}
 use Rattle.pc_presentation.specs.Builder.{Draft, extended}
-use Rattle.answer_text.specs.Lines.{text_of_lines}
 use Rattle.answer_text.specs.OneText.{AreNames}
 use Rattle.answer_text.specs.AnswerPlaces.{HasForm, order_of, behind_relations, relation_line, word_line}
 use Rattle.answer_text.specs.AnswerPlaces.Place.{in_body}
@@ -17,12 +18,12 @@ use Rattle.answer_text.specs.AnswerPlaces.HasForm.{relation, image}
 use Rattle.answer_text.specs.ReadSoFar.{word_lines}
 use Rattle.answer_text.specs.Drafts.{IsDraft, IsNext, SoFar, so_far, AddsRelation, AddsImage, Adds, all_lines}
 use Rattle.answer_text.specs.BodyRead.{Leads, body_lines, IsBodyRead}
-use Rattle.answer_text.proofs.LineLeads.{Leads-append}
-use Rattle.answer_text.proofs.BadLines.{text-push}
+use Rattle.answer_text.proofs.lines.LineLeads.{Leads-append}
+use Rattle.answer_text.proofs.lines.BadLines.{text-push}
 use Rattle.answer_text.proofs.RelationAppends.{PowersBlank-later, RowsBlank-later}
 use Rattle.answer_text.proofs.DraftAdded.{draft-added}
 
-order_of-small : (n : ℕ) (r : Relation) → n ≤ 100 → IsRelation n r → order_of r < behind_relations
+order_of-small : (n : ℕ) (r : Relation) → n ≤ max_rank → IsRelation n r → order_of r < behind_relations
 order_of-small n (Power i) h is = omega (arith, is.0, is.1)
 order_of-small n (Commutator j i) h is = omega (arith, is.0, is.1, is.2)
 

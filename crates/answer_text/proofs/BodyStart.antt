@@ -2,22 +2,19 @@
 use Rattle.std.proofs.Common.{◌≡◌, ◌≤◌, ◌+◌, ◌-◌, ◌*◌, ℕ, zero, suc, true, false, List, [], ◌++◌, length, replicate, refl, ap, ap₂, sym, subst, ◌∙◌, arith}
 use Rattle.std.proofs.lemmas.List.Elements.{All-nil}
 use Rattle.pq_base.specs.Elementary.{elementary, zeros, zero_powers, zero_rows}
+use Rattle.pq_base.specs.Lines.{text_of_lines}
 use Rattle.pq_base.proofs.ElementarySides.{elementary-presentation}
 use Rattle.pc_presentation.specs.Syllable.{AreSyllables, syllables_of}
 use Rattle.pc_presentation.specs.Relation.{IsRelation}
 use Rattle.pc_presentation.specs.Pcp.{HasShape, sides_of}
 use Rattle.pc_presentation.specs.Builder.{empty_draft}
-use Rattle.pc_presentation.proofs.RelationTables.{entry_at-per_relation, per_relation-shape}
+use Rattle.pc_presentation.proofs.presentations.RelationTables.{entry_at-per_relation, per_relation-shape}
+use Rattle.pc_presentation.proofs.presentations.SyllableParts.{syllables_of-zeros}
 use Rattle.answer_text.specs.AnswerPlaces.{IsScale}
 use Rattle.answer_text.specs.AnswerPlaces.Place.{in_body}
-use Rattle.answer_text.specs.Lines.{text_of_lines}
 use Rattle.answer_text.specs.Drafts.{IsDraft, PowersBlank, RowBlank, RowsBlank, so_far, all_lines}
 use Rattle.answer_text.specs.BodyRead.{Leads, body_lines, IsBodyRead}
 use Rattle.answer_text.proofs.RelationAppends.{power_lines-blank, rows-blank}
-
-syllables_of-zeros : (k n : ℕ) → syllables_of k (zeros n) ≡ []
-syllables_of-zeros k zero = refl
-syllables_of-zeros k (suc n) = syllables_of-zeros (suc k) n
 
 PowersBlank-zero : (k n : ℕ) → PowersBlank k zero (zero_powers n)
 PowersBlank-zero k zero = tt
@@ -33,7 +30,7 @@ RowsBlank-zero k j (suc n) =
     let start : 0 ≡ 0 - 1000 * suc k = omega arith in
     (subst (λ (x : ℕ). RowBlank (suc k) x (replicate j (zeros n))) start (RowBlank-zero (suc k) j n), RowsBlank-zero (suc k) (suc j) n)
 
-IsDraft-empty : (p n : ℕ) (ws : List ℕ) → IsScale p n → 1 ≤ p → length ws ≡ n → IsDraft p n (empty_draft p ws 0) 0
+IsDraft-empty : (p n : ℕ) (ws : List ℕ) → IsScale p n → 2 ≤ p → length ws ≡ n → IsDraft p n (empty_draft p ws 0) 0
 IsDraft-empty p n ws z one long =
     let is = elementary-presentation p (length ws) one in
     let shape : HasShape (length ws) (sides_of (elementary p (length ws))) =
@@ -53,7 +50,7 @@ IsDraft-empty p n ws z one long =
 all_lines-empty : (p n : ℕ) → all_lines p (elementary p n) ≡ []
 all_lines-empty p n = ap₂ (λ (s t : List (List ℕ)). s ++ t) (power_lines-blank p 0 (zero_powers n) (PowersBlank-zero 0 n)) (rows-blank 0 0 (zero_rows 0 n) (omega arith) (RowsBlank-zero 0 0 n))
 
-pub IsBodyRead-nothing : (p n : ℕ) (ws text : List ℕ) → IsScale p n → 1 ≤ p → length ws ≡ n → IsBodyRead p n ws text text (n + 5) (so_far (empty_draft p ws 0) 0 [] [])
+pub IsBodyRead-nothing : (p n : ℕ) (ws text : List ℕ) → IsScale p n → 2 ≤ p → length ws ≡ n → IsBodyRead p n ws text text (n + 5) (so_far (empty_draft p ws 0) 0 [] [])
 IsBodyRead-nothing p n ws text z one long =
     let none : [] ≡ body_lines p (so_far (empty_draft p ws 0) 0 [] []) = sym (ap (λ (x : List (List ℕ)). x ++ []) (all_lines-empty p (length ws))) in
     record {

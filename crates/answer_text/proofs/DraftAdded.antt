@@ -1,10 +1,10 @@
 -- A relation behind all that a draft was given is accepted, and adds its line.
 use Rattle.std.proofs.Common.{◌≡◌, ◌≢◌, ◌<◌, ◌≤◌, ◌-◌, ℕ, zero, true, false, List, [], ◌∷◌, ◌++◌, length, refl, ap, sym, subst, ◌∙◌, arith}
 use Rattle.std.specs.Prelude.{None, Some, Option, Result, Ok, Err, IfOk, IfSome, codes}
+use Rattle.pq_base.specs.Limits.{max_rank}
 use Rattle.answer_text.specs.Words.{word_text}
 use Rattle.answer_text.proofs.Splits.{first-apart}
-use Rattle.answer_text.proofs.FormLaws.{offered-small}
-use Rattle.answer_text.proofs.LineTexts.{relation_start-same}
+use Rattle.answer_text.proofs.lines.LineTexts.{relation_start-same}
 use native.Mathlib.Decide.{dec_lt}
 use Rattle.pq_base.specs.Presentation.{Presentation}
 use Rattle.pc_presentation.specs.declared.syllable.Syllable.{Syllable}
@@ -15,14 +15,15 @@ use Rattle.pc_presentation.specs.Syllable.{AreSyllables, AreGenerators, spread, 
 use Rattle.pc_presentation.specs.Relation.{IsRelation, side_start}
 use Rattle.pc_presentation.specs.Pcp.{sides_of, with_side}
 use Rattle.pc_presentation.specs.Builder.{Draft, extended, IsAccepted, IsRefused}
-use Rattle.pc_presentation.proofs.SyllableLaws.{AreSyllables-weaken}
-use Rattle.pc_presentation.proofs.WordTests.{AreGenerators-AreSyllables, normal_from-AreSyllables, later_from_normal}
-use Rattle.pc_presentation.proofs.EntryLaws.{with_entry-shape, entry_at-with_entry_other}
+use Rattle.pc_presentation.proofs.presentations.SyllableLaws.{AreSyllables-weaken}
+use Rattle.pc_presentation.proofs.presentations.WordTests.{AreGenerators-AreSyllables, normal_from-AreSyllables, later_from_normal}
+use Rattle.pc_presentation.proofs.normal_tables.EntryLaws.{with_entry-shape, entry_at-with_entry_other}
 pub use Rattle.answer_text.specs.Drafts.{IsDraft, IsNext}
 use Rattle.answer_text.specs.AnswerPlaces.{Place, HasForm, order_of, relation_line, word_line}
 use Rattle.answer_text.specs.AnswerPlaces.Place.{in_body}
 use Rattle.answer_text.specs.AnswerPlaces.HasForm.{relation, image, last}
 use Rattle.pq_base.specs.Name.{IsName}
+use Rattle.pq_base.proofs.PrimeLaws.{offered-small}
 use Rattle.answer_text.proofs.RelationAdded.{all_lines, IsBlankBehind, relation-added}
 
 pub IsAccepted-next : (p n place : ℕ) (D : Draft) (r : Relation) (w : List Syllable) → IsDraft p n D place → IsNext p n place r w → IsAccepted D r w None
@@ -88,7 +89,7 @@ pub refused-relation : (p n place : ℕ) (D : Draft) (line : List ℕ) (Q : Plac
     → AreSyllables p n (side_start r) w → line ≡ relation_line p r w → (place < order_of r → ¬ IsAccepted D r w None) → HasForm (in_body p n zero place) line Q → line ≡ codes "end"
 refused-relation p n place D line Q r w draft it one b same refused (relation p2 n2 m q v z is rises some a) =
     let small : p < 8 = offered-small p z.offered in
-    let limit : n ≤ 100 = z.limit in
+    let limit : n ≤ max_rank = z.limit in
     let relations : q ≡ r = (relation_start-same p n q r (word_text v) (word_text w) (omega arith) (omega arith) is it same).0 in
     let behind : place < order_of r = subst (λ (x : Relation). place < order_of x) relations rises in
     absurd (refused behind (IsAccepted-next p n place D r w draft (record { relation = it; rises = behind; some = one; word = b })))

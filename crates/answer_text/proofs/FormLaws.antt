@@ -2,7 +2,8 @@
 use Rattle.std.proofs.Common.{◌≡◌, ◌<◌, ◌≤◌, ℕ, zero, suc, true, List, [], ◌∷◌, ◌++◌, drop, decimal, refl, ap, ap₂, sym, ◌∙◌, inl, inr, arith}
 use Rattle.std.specs.Prelude.{codes}
 use Rattle.std.proofs.lemmas.Fmt.{decimal_injective}
-use Rattle.pq_base.specs.Prime.{IsOffered}
+use Rattle.pq_base.specs.Limits.{max_rank}
+use Rattle.pq_base.proofs.PrimeLaws.{offered-small}
 use Rattle.pc_presentation.specs.declared.syllable.Syllable.{Syllable}
 use Rattle.pc_presentation.specs.declared.relation.Relation.{Relation}
 use Rattle.pc_presentation.specs.declared.relation.Relation.TheVariants.{Power, Commutator}
@@ -15,21 +16,9 @@ use Rattle.answer_text.specs.AnswerPlaces.{Place, HasForm, IsSource, left_text, 
 use Rattle.answer_text.specs.AnswerPlaces.Place.{for_class, for_order, in_body}
 use Rattle.answer_text.specs.AnswerPlaces.HasForm.{prime, class, rank, order, generator, relation, image, last}
 use Rattle.answer_text.proofs.Splits.{first-apart, avoids, avoids-append, avoids-decimal, decimal-same}
-use Rattle.answer_text.proofs.WordTexts.{AreWritten, avoids-word}
-use Rattle.answer_text.proofs.RelationTexts.{power-commutator-apart, commutator_text-same, power_text-long}
+use Rattle.answer_text.proofs.texts.WordTexts.{AreWritten, avoids-word}
+use Rattle.answer_text.proofs.texts.RelationTexts.{power-commutator-apart, commutator_text-same, power_text-long}
 use Rattle.answer_text.proofs.ImagesTold.{avoids-name}
-
-pub offered-small : (p : ℕ) → IsOffered p → p < 8
-offered-small p h = elim h [
-  | inl two ↦ omega arith
-  | inr other ↦ elim other [
-    | inl three ↦ omega arith
-    | inr larger ↦ elim larger [
-      | inl five ↦ omega arith
-      | inr seven ↦ omega arith
-    ]
-  ]
-]
 
 pub AreWritten-AreSyllables : (p n k : ℕ) (w : List Syllable) → p ≤ 100 → n < 1000 → AreSyllables p n k w → AreWritten w
 AreWritten-AreSyllables p n k [] small limit a = tt
@@ -53,21 +42,21 @@ avoids-form (class p c h) = avoids-decimal 10 c (λ d l e. omega arith) (omega a
 avoids-form (rank p n h) = avoids-decimal 10 n (λ d l e. omega arith) (omega arith)
 avoids-form (order p n s) =
     let small : p < 8 = offered-small p s.offered in
-    let limit : n ≤ 100 = s.limit in
+    let limit : n ≤ max_rank = s.limit in
     avoids-append 10 (decimal p) (94 ∷ decimal n) (avoids-decimal 10 p (λ d l e. omega arith) (omega arith)) (avoids-decimal 10 n (λ d l e. omega arith) (omega arith))
 avoids-form (generator p n m left k w s z inside one top source) =
     let small : p < 8 = offered-small p z.offered in
-    let limit : n ≤ 100 = z.limit in
+    let limit : n ≤ max_rank = z.limit in
     avoids-append 10 (decimal (suc k)) (codes " weight " ++ (decimal w ++ (codes " from " ++ source_text p s))) (avoids-decimal 10 (suc k) (λ d l e. omega arith) (omega arith))
     (avoids-append 10 (decimal w) (codes " from " ++ source_text p s) (avoids-decimal 10 w (λ d l e. omega arith) (omega arith)) (avoids-source p n s (omega arith) (omega arith) source))
 avoids-form (relation p n m r w z is rises some a) =
     let small : p < 8 = offered-small p z.offered in
-    let limit : n ≤ 100 = z.limit in
+    let limit : n ≤ max_rank = z.limit in
     avoids-append 10 (left_text p r) (codes " = " ++ word_text w) (avoids-left p n r (omega arith) (omega arith) is)
     (avoids-word w (AreWritten-AreSyllables p n _ w (omega arith) (omega arith) a))
 avoids-form (image p n m name w z is a) =
     let small : p < 8 = offered-small p z.offered in
-    let limit : n ≤ 100 = z.limit in
+    let limit : n ≤ max_rank = z.limit in
     avoids-append 10 name (codes " = " ++ word_text w) (avoids-name 10 name refl is) (avoids-word w (AreWritten-AreSyllables p n 0 w (omega arith) (omega arith) a))
 avoids-form (last p n m) = refl
 
@@ -93,7 +82,7 @@ form-same (rank p n a) (rank q m b) h = ap (λ (x : ℕ). for_order p x) (decima
 form-same (order p n s) (order q m t) h = refl
 form-same (generator p n m left k w s z inside one top source) (generator p2 n2 m2 left2 k2 w2 s2 z2 inside2 one2 top2 source2) h = refl
 form-same (relation p n m r w z is rises some a) (relation p2 n2 m2 q v z2 is2 rises2 some2 b) h =
-    let limit : n ≤ 100 = z.limit in
+    let limit : n ≤ max_rank = z.limit in
     ap (λ (x : Relation). in_body p n zero (order_of x))
     (left_text-same p n r q (codes " = " ++ word_text w) (codes " = " ++ word_text v) (omega arith) is is2 (ap (λ (x : List ℕ). drop 9 x) h))
 form-same (relation p n m r w z is rises some a) (image p2 n2 m2 name v z2 is2 b) h = absurd (first-apart 114 105 _ _ refl h)

@@ -1,11 +1,12 @@
 -- A line of a generator more is read.
 use Rattle.std.proofs.Common.{◌≡◌, ◌≤◌, ◌+◌, ℕ, List, [], ◌∷◌, ◌++◌, length, ap, ap₂, sym, subst, ◌∙◌, arith, length-append}
+use Rattle.pq_base.specs.Limits.{max_class}
+use Rattle.pq_base.specs.Lines.{text_of_lines}
 use Rattle.answer_text.specs.declared.source.Source.{Source}
-use Rattle.answer_text.specs.Lines.{text_of_lines}
 use Rattle.answer_text.specs.AnswerPlaces.{IsSource, source_line}
 use Rattle.answer_text.specs.ReadSoFar.{source_lines, AreSources}
-use Rattle.answer_text.proofs.SourceLines.{source_lines-push, AreSources-push}
-use Rattle.answer_text.proofs.BadLines.{text-push}
+use Rattle.answer_text.proofs.lines.SourceLines.{source_lines-push, AreSources-push}
+use Rattle.answer_text.proofs.lines.BadLines.{text-push}
 
 pub length-push : {X : Type 0} (xs ys : List X) (x : X) (k : ℕ) → ys ≡ xs ++ x ∷ [] → length xs ≡ k → length ys ≡ k + 1
 length-push {X} xs ys x k e h =
@@ -14,7 +15,7 @@ length-push {X} xs ys x k e h =
     omega arith
 
 pub legible-push : (n : ℕ) (ws vs : List ℕ) (ss ts : List Source) (w : ℕ) (s : Source) → vs ≡ ws ++ w ∷ [] → ts ≡ ss ++ s ∷ [] → length ss ≡ length ws
-    → AreSources n ws ss → 1 ≤ w → w ≤ 60 → IsSource n s → AreSources n vs ts
+    → AreSources n ws ss → 1 ≤ w → w ≤ max_class → IsSource n s → AreSources n vs ts
 legible-push n ws vs ss ts w s e g long a one top is =
     subst (λ (x : List ℕ). AreSources n x ts) (sym e) (subst (λ (x : List Source). AreSources n (ws ++ w ∷ []) x) (sym g) (AreSources-push n ws ss w s a one top is long))
 

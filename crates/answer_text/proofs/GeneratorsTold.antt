@@ -3,16 +3,17 @@
 use Rattle.std.proofs.Common.{◌≡◌, ◌<◌, ◌≤◌, ◌+◌, ℕ, zero, suc, true, false, List, [], ◌∷◌, ◌++◌, get_or, length, drop, map, decimal, refl, ap, ap₂, sym, ◌∙◌, arith, append_assoc}
 use Rattle.std.specs.Prelude.{codes}
 use Rattle.std.proofs.lemmas.List.{append_cancel_left}
+use Rattle.pq_base.specs.Limits.{max_rank}
 use native.Mathlib.Decide.{dec_lt}
 use Rattle.pq_base.specs.Name.{is_name_byte}
 use Rattle.pq_base.specs.LPresentation.{AreDistinct}
 use Rattle.pq_base.specs.Answer.{Definition, AreWeights}
 use Rattle.pq_base.specs.Answer.Definition.{image, commutator, power}
-use Rattle.answer_text.specs.Lines.{text_of_lines}
+use Rattle.pq_base.specs.Lines.{text_of_lines}
 use Rattle.answer_text.specs.AnswerText.{definition_text, generator_line, generator_lines}
 use Rattle.answer_text.specs.OneText.{AreNames}
 use Rattle.answer_text.proofs.Splits.{first-apart, avoids, avoids-append, avoids-decimal, split-same, decimal-same}
-use Rattle.answer_text.proofs.RelationTexts.{commutator_text-same}
+use Rattle.answer_text.proofs.texts.RelationTexts.{commutator_text-same}
 use Rattle.answer_text.proofs.ImagesTold.{avoids-name}
 
 -- a definition that its text tells
@@ -95,7 +96,7 @@ generator_lines-first p names k w d ws ds more =
     ∙ ap (λ (t : List ℕ). decimal (suc k) ++ (codes " weight " ++ t)) (append_assoc (decimal w) (codes " from " ++ definition_text p names d) x))
 
 pub generators-same : (p : ℕ) (names others : List (List ℕ)) (k least lowest : ℕ) (ws vs : List ℕ) (ds es : List Definition) (more rest : List ℕ)
-    → p < 100 → k + length ws ≤ 100 → AreNames names → AreNames others → length ds ≡ length ws → length es ≡ length vs → length ws ≡ length vs
+    → p < 100 → k + length ws ≤ max_rank → AreNames names → AreNames others → length ds ≡ length ws → length es ≡ length vs → length ws ≡ length vs
     → AreWeights least ws → AreWeights lowest vs → AreTold names ds → AreTold others es
     → text_of_lines (generator_lines p names k ws ds) ++ more ≡ text_of_lines (generator_lines p others k vs es) ++ rest
     → (ws ≡ vs) × (map (definition_text p names) ds ≡ map (definition_text p others) es) × (more ≡ rest)

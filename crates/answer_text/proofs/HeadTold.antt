@@ -1,7 +1,7 @@
 -- The head of an answer's text tells the prime and the rank.
 use Rattle.std.proofs.Common.{◌≡◌, ◌<◌, ℕ, List, [], ◌∷◌, ◌++◌, drop, decimal, ap, sym, ◌∙◌, arith, append_assoc}
 use Rattle.std.specs.Prelude.{codes}
-use Rattle.answer_text.specs.Lines.{text_of_lines}
+use Rattle.pq_base.specs.Lines.{text_of_lines}
 use Rattle.answer_text.specs.AnswerText.{head_lines}
 use Rattle.answer_text.proofs.Splits.{decimal-same}
 

@@ -1,18 +1,19 @@
 -- The text of the images tells the names and the images.
 use Rattle.std.proofs.Common.{◌≡◌, ◌<◌, ◌≤◌, ℕ, true, false, List, [], ◌∷◌, ◌++◌, length, drop, refl, ap, ap₂, sym, ◌∙◌, arith, append_assoc}
+use Rattle.std.proofs.lemmas.Bool.{and_parts}
 use Rattle.std.specs.Prelude.{codes}
 use Rattle.std.specs.List.{list_all}
+use Rattle.pq_base.specs.Limits.{max_rank}
 use Rattle.pq_base.specs.Name.{is_letter, is_name_byte, is_name_text, IsName}
 use Rattle.pq_base.specs.Answer.{AreNormal}
+use Rattle.pq_base.specs.Lines.{text_of_lines}
 use Rattle.pc_presentation.specs.Syllable.{syllables_of}
-use Rattle.answer_text.specs.Lines.{text_of_lines}
 use Rattle.answer_text.specs.Words.{word_text}
 use Rattle.answer_text.specs.AnswerText.{image_lines}
 use Rattle.answer_text.specs.OneText.{AreNames}
-use Rattle.answer_text.proofs.NameTexts.{both}
 use Rattle.answer_text.proofs.Splits.{first-apart, avoids, avoids-cons, split-same}
-use Rattle.answer_text.proofs.WordTexts.{AreWritten-syllables_of, avoids-word, word_text-same, syllables_of-same}
-use Rattle.answer_text.proofs.RelationTexts.{NoRelation}
+use Rattle.answer_text.proofs.texts.WordTexts.{AreWritten-syllables_of, avoids-word, word_text-same, syllables_of-same}
+use Rattle.answer_text.proofs.texts.RelationTexts.{NoRelation}
 
 no_name_byte : (c b : ℕ) → is_name_byte c ≡ false → is_name_byte b ≡ true → b ≡ c → ⊥
 no_name_byte c b out in_name same =
@@ -22,13 +23,13 @@ no_name_byte c b out in_name same =
 avoids-name_bytes : (c : ℕ) (bs : List ℕ) → is_name_byte c ≡ false → list_all is_name_byte bs ≡ true → avoids c bs ≡ true
 avoids-name_bytes c [] out h = refl
 avoids-name_bytes c (b ∷ bs) out h =
-    let parts = both (is_name_byte b) (list_all is_name_byte bs) h in
+    let parts = and_parts (is_name_byte b) (list_all is_name_byte bs) h in
     avoids-cons c b bs (no_name_byte c b out parts.0) (avoids-name_bytes c bs out parts.1)
 
 avoids-name_text : (c : ℕ) (bs : List ℕ) → is_name_byte c ≡ false → is_name_text bs ≡ true → avoids c bs ≡ true
 avoids-name_text c [] out h = refl
 avoids-name_text c (b ∷ bs) out h =
-    let parts = both (is_letter b) (list_all is_name_byte bs) h in
+    let parts = and_parts (is_letter b) (list_all is_name_byte bs) h in
     let byte : is_name_byte b ≡ true = rw parts.0 refl in
     avoids-cons c b bs (no_name_byte c b out byte) (avoids-name_bytes c bs out parts.1)
 
@@ -48,7 +49,7 @@ images_text-first : (n e : List ℕ) (ns es : List (List ℕ))
     → images_text (n ∷ ns) (e ∷ es) ≡ codes "image " ++ (n ++ 32 ∷ (codes "= " ++ (word_text (syllables_of 0 e) ++ 10 ∷ images_text ns es)))
 images_text-first n e ns es = simp append_assoc
 
-pub images-same : (p m : ℕ) (ns es os fs : List (List ℕ)) → p < 100 → m ≤ 100 → AreNames ns → AreNames os → length es ≡ length ns → length fs ≡ length os
+pub images-same : (p m : ℕ) (ns es os fs : List (List ℕ)) → p < 100 → m ≤ max_rank → AreNames ns → AreNames os → length es ≡ length ns → length fs ≡ length os
     → AreNormal p m es → AreNormal p m fs → images_text ns es ≡ images_text os fs → (ns ≡ os) × (es ≡ fs)
 images-same p m [] [] [] [] small inside a b k l u v h = (refl, refl)
 images-same p m [] [] [] (f ∷ fs) small inside a b k l u v h = absurd (omega arith)

@@ -1,21 +1,23 @@
 -- One text has one answer: the text tells the head, the generators, the relations and the images, part by part.
 use Rattle.std.proofs.Common.{◌≡◌, ◌<◌, ◌≤◌, ◌+◌, ℕ, zero, suc, List, [], ◌∷◌, ◌++◌, get_or, length, map, ap, sym, subst, ◌∙◌, arith}
+use Rattle.pq_base.specs.Limits.{max_class, max_rank}
 use Rattle.pq_base.specs.Table.{AllBelow}
 use Rattle.pq_base.specs.Presentation.{Presentation, IsPresentation, IsLaterSide, power_side, commutator_side}
 use Rattle.pq_base.specs.Answer.{Answer, Definition, HasDefinition, AreWeights, AreNormal, last_or_zero, class_of, definition_at}
 use Rattle.pq_base.specs.Answer.Definition.{image, commutator, power}
-use Rattle.answer_text.specs.Lines.{text_of_lines}
+use Rattle.pq_base.specs.Lines.{text_of_lines}
+use Rattle.pq_base.proofs.PrimeLaws.{offered-small}
+use Rattle.pq_base.proofs.Restrictions.{same_presentations}
 use Rattle.answer_text.specs.AnswerText.{definition_text, generator_lines, power_text, power_lines, commutator_text, commutator_lines}
 use Rattle.answer_text.specs.OneText.{IsWritable, OneTextOneAnswer}
-use Rattle.answer_text.proofs.AnswerLines.{answer_text-parts}
-use Rattle.answer_text.proofs.RelationTexts.{NoRelation, AreAlike, SidesAlike, RowsAlike, power-commutator-apart}
+use Rattle.answer_text.proofs.lines.AnswerLines.{answer_text-parts}
+use Rattle.answer_text.proofs.texts.RelationTexts.{NoRelation, AreAlike, SidesAlike, RowsAlike, power-commutator-apart}
 use Rattle.answer_text.proofs.RelationsTold.{AreShortRows, powers-same, rows-same, NoRelation-rows}
 use Rattle.answer_text.proofs.ImagesTold.{images_text, NoRelation-images, images-same}
 use Rattle.answer_text.proofs.GeneratorsTold.{IsTold, AreTold, definitions-same, generators-same}
 use Rattle.answer_text.proofs.HeadTold.{head-same}
-use Rattle.answer_text.proofs.FormLaws.{offered-small}
 
-pub last-small : (least : ℕ) (ws : List ℕ) → AreWeights least ws → last_or_zero ws ≤ 60
+pub last-small : (least : ℕ) (ws : List ℕ) → AreWeights least ws → last_or_zero ws ≤ max_class
 last-small least [] a = omega arith
 last-small least (w ∷ []) a = a.1
 last-small least (w ∷ v ∷ ws) a = last-small w (v ∷ ws) a.2
@@ -33,7 +35,7 @@ rows-alike p (e ∷ es) [] long alike = absurd (omega arith)
 rows-alike p (e ∷ es) (f ∷ fs) long alike = (alike 0 (omega arith), rows-alike p es fs (omega arith) (λ i l. alike (suc i) (omega arith)))
 
 -- two presentations with one prime and one rank
-module _ (P Q : Presentation) (prime : P.prime ≡ Q.prime) (rank : P.rank ≡ Q.rank) (limit : P.rank ≤ 100) (a : IsPresentation P) (b : IsPresentation Q) where
+module _ (P Q : Presentation) (prime : P.prime ≡ Q.prime) (rank : P.rank ≡ Q.rank) (limit : P.rank ≤ max_rank) (a : IsPresentation P) (b : IsPresentation Q) where
   later-alike : (i : ℕ) (e f : List ℕ) → IsLaterSide P i e → IsLaterSide Q i f → AreAlike P.prime e f
   later-alike i e f l m =
       let one : suc i + length e ≡ P.rank = l.count in
@@ -58,13 +60,13 @@ module _ (P Q : Presentation) (prime : P.prime ≡ Q.prime) (rank : P.rank ≡ Q
       sides-alike P.prime (get_or P.commutators j []) (get_or Q.commutators j []) (omega arith)
       (λ i m. later-alike j (commutator_side P j i) (commutator_side Q j i) (a.commutator_sides j i (omega arith) (omega arith)) (b.commutator_sides j i (omega arith) (omega arith))))
 
-pub short-rows : (P : Presentation) → P.rank ≤ 100 → IsPresentation P → AreShortRows P.commutators
+pub short-rows : (P : Presentation) → P.rank ≤ max_rank → IsPresentation P → AreShortRows P.commutators
 short-rows P limit a i l =
     let long : length P.commutators ≡ P.rank = a.commutator_count in
     let entries : length (get_or P.commutators i []) ≡ i = a.commutator_counts i (omega arith) in
     omega arith
 
-told : (A : Answer) (k : ℕ) (d : Definition) → k < 100 → length A.images ≡ length A.names → HasDefinition A k d → IsTold A.names d
+told : (A : Answer) (k : ℕ) (d : Definition) → k < max_rank → length A.images ≡ length A.names → HasDefinition A k d → IsTold A.names d
 told A k (image zero) l same h = absurd h
 told A k (image (suc i)) l same h = (omega arith, omega (arith, h.1, same))
 told A k (commutator zero i) l same h = absurd h
@@ -80,11 +82,8 @@ AreTold-each names (d ∷ ds) h = (h 0 (omega arith), AreTold-each names ds (λ 
 all-told : (A : Answer) → IsWritable A → AreTold A.names A.definitions
 all-told A w =
     let count : length A.definitions ≡ A.presentation.rank = w.answer.definition_count in
-    let limit : A.presentation.rank ≤ 100 = w.rank_limit in
+    let limit : A.presentation.rank ≤ max_rank = w.rank_limit in
     AreTold-each A.names A.definitions (λ k l. told A k (definition_at A k) (omega arith) w.answer.image_count (w.answer.definitions k (omega arith)))
-
-pub presentation-same : (P Q : Presentation) → P.prime ≡ Q.prime → P.rank ≡ Q.rank → P.powers ≡ Q.powers → P.commutators ≡ Q.commutators → P ≡ Q
-presentation-same P Q e1 e2 e3 e4 = λ i. record { prime = e1 i; rank = e2 i; powers = e3 i; commutators = e4 i }
 
 pub answer-same : (A B : Answer) → A.presentation ≡ B.presentation → A.weights ≡ B.weights → A.names ≡ B.names → A.definitions ≡ B.definitions → A.images ≡ B.images → A ≡ B
 answer-same A B e1 e2 e3 e4 e5 = λ i. record { presentation = e1 i; weights = e2 i; names = e3 i; definitions = e4 i; images = e5 i }
@@ -108,8 +107,8 @@ module _ (A B : Answer) (v : IsWritable A) (w : IsWritable B) (prime : A.present
   rest-same =
       let p : ℕ = A.presentation.prime in
       let small : p < 100 = omega (arith, offered-small p v.prime) in
-      let limit : A.presentation.rank ≤ 100 = v.rank_limit in
-      let also : B.presentation.rank ≤ 100 = w.rank_limit in
+      let limit : A.presentation.rank ≤ max_rank = v.rank_limit in
+      let also : B.presentation.rank ≤ max_rank = w.rank_limit in
       let lists : length A.weights ≡ A.presentation.rank = v.answer.weight_count in
       let others : length B.weights ≡ B.presentation.rank = w.answer.weight_count in
       let defined : length A.definitions ≡ A.presentation.rank = v.answer.definition_count in
@@ -133,16 +132,16 @@ module _ (A B : Answer) (v : IsWritable A) (w : IsWritable B) (prime : A.present
       let imgs = images-same p A.presentation.rank A.names A.images B.names B.images small limit v.names w.names v.answer.image_count w.answer.image_count v.answer.images normal comms.1 in
       let definitions = definitions-same p A.names A.definitions B.definitions v.answer.distinct (all-told A v) (subst (λ (ns : List (List ℕ)). AreTold ns B.definitions) (sym imgs.0) (all-told B w))
       (gens.1 ∙ ap (λ (ns : List (List ℕ)). map (definition_text p ns) B.definitions) (sym imgs.0)) in
-      answer-same A B (presentation-same A.presentation B.presentation prime rank pows.0 comms.0) gens.0 imgs.0 definitions imgs.1
+      answer-same A B (same_presentations A.presentation B.presentation prime rank pows.0 comms.0) gens.0 imgs.0 definitions imgs.1
 
 pub one_text_one_answer : OneTextOneAnswer
 one_text_one_answer A B v w h =
-    let limit : A.presentation.rank ≤ 100 = v.rank_limit in
-    let also : B.presentation.rank ≤ 100 = w.rank_limit in
+    let limit : A.presentation.rank ≤ max_rank = v.rank_limit in
+    let also : B.presentation.rank ≤ max_rank = w.rank_limit in
     let small : A.presentation.prime < 100 = omega (arith, offered-small A.presentation.prime v.prime) in
     let low : B.presentation.prime < 100 = omega (arith, offered-small B.presentation.prime w.prime) in
-    let class : class_of A ≤ 60 = last-small 1 A.weights v.answer.weights in
-    let other : class_of B ≤ 60 = last-small 1 B.weights w.answer.weights in
+    let class : class_of A ≤ max_class = last-small 1 A.weights v.answer.weights in
+    let other : class_of B ≤ max_class = last-small 1 B.weights w.answer.weights in
     let head = head-same A.presentation.prime (class_of A) A.presentation.rank B.presentation.prime (class_of B) B.presentation.rank
     (after_head A.presentation.prime A) (after_head B.presentation.prime B) (omega arith) (omega arith) (omega arith) (omega arith) (omega arith) (omega arith)
     (sym (answer_text-parts A) ∙ h ∙ answer_text-parts B) in

@@ -1,5 +1,6 @@
 -- A relation behind all that were given adds its line, and no relation behind it is given.
 use Rattle.std.proofs.Common.{◌≡◌, ◌<◌, ◌≤◌, ◌+◌, ◌-◌, ◌*◌, ℕ, suc, List, [], ◌∷◌, ◌++◌, get_or, length, slice_set, refl, ap, ap₂, sym, subst, ◌∙◌, arith, append_assoc, append-nil}
+use Rattle.pq_base.specs.Limits.{max_rank}
 use Rattle.pq_base.specs.Presentation.{Presentation}
 use Rattle.pc_presentation.specs.declared.syllable.Syllable.{Syllable}
 use Rattle.pc_presentation.specs.declared.relation.Relation.{Relation}
@@ -7,7 +8,7 @@ use Rattle.pc_presentation.specs.declared.relation.Relation.TheVariants.{Power, 
 use Rattle.pc_presentation.specs.Syllable.{AreSyllables, spread, syllables_of}
 use Rattle.pc_presentation.specs.Relation.{IsRelation, side_start}
 use Rattle.pc_presentation.specs.Pcp.{HasShape, sides_of, with_side}
-use Rattle.pc_presentation.proofs.SyllableLaws.{syllables_of-spread}
+use Rattle.pc_presentation.proofs.presentations.SyllableLaws.{syllables_of-spread}
 pub use Rattle.answer_text.specs.Drafts.{all_lines, IsBlankBehind}
 use Rattle.answer_text.specs.AnswerText.{relation_lines, power_text, power_lines, commutator_text, commutator_lines}
 use Rattle.answer_text.specs.AnswerPlaces.{left_text, order_of, relation_line}
@@ -17,7 +18,7 @@ one-line : (p : ℕ) (r : Relation) (w : List Syllable) → 1 ≤ length w → r
 one-line p r [] h = absurd (omega arith)
 one-line p r (s ∷ w) h = refl
 
-pub relation-added : (p n last : ℕ) (P : Presentation) (r : Relation) (w : List Syllable) → n ≤ 100 → HasShape n (sides_of P) → IsBlankBehind last P → IsRelation n r → last < order_of r
+pub relation-added : (p n last : ℕ) (P : Presentation) (r : Relation) (w : List Syllable) → n ≤ max_rank → HasShape n (sides_of P) → IsBlankBehind last P → IsRelation n r → last < order_of r
     → 1 ≤ length w → AreSyllables p n (side_start r) w
     → (all_lines p (with_side P r (spread (n - side_start r) (side_start r) w)) ≡ all_lines p P ++ relation_line p r w ∷ [])
     × IsBlankBehind (order_of r) (with_side P r (spread (n - side_start r) (side_start r) w))

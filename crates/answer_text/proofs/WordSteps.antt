@@ -5,8 +5,8 @@ use Rattle.pc_presentation.specs.declared.syllable.Syllable.{Syllable}
 use Rattle.pc_presentation.specs.Syllable.{AreSyllables}
 use Rattle.answer_text.specs.Words.{syllable_text, word_text, IsWritten}
 use Rattle.answer_text.proofs.Splits.{avoids, split-same}
-use Rattle.answer_text.proofs.WordTexts.{star, avoids-syllable, syllable_text-same}
-use Rattle.answer_text.proofs.PieceTexts.{avoids-not}
+use Rattle.answer_text.proofs.texts.WordTexts.{star, avoids-syllable, syllable_text-same}
+use Rattle.answer_text.proofs.texts.PieceTexts.{avoids-not}
 
 -- what is left is the text of these syllables
 abbrev pub LeftIs : Option (List ℕ) → List Syllable → Type 0

@@ -6,9 +6,9 @@ use Rattle.serde_json.specs.View.{items_of}
 use Rattle.serde_json.specs.Written.{compact_text}
 use Rattle.pq_base.specs.Answer.{Answer, Definition, class_of}
 use Rattle.pq_base.specs.Answer.Definition.{image, commutator, power}
+use Rattle.pq_base.specs.Name.{name_text}
 use Rattle.pc_presentation.specs.declared.syllable.Syllable.{Syllable}
 use Rattle.pc_presentation.specs.Syllable.{syllables_of}
-use Rattle.answer_text.specs.AnswerText.{name_text}
 
 abbrev pub list_data : List Data → Data
 list_data ds = array (items_of ds)

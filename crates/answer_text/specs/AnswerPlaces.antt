@@ -2,6 +2,7 @@
 -- rising. What a whole answer wants beyond that, as distinct names, is no matter of the lines' form.
 -- From: this project's own format.
 use Rattle.std.specs.Prelude.{◌≡◌, ◌<◌, ◌≤◌, ◌+◌, ◌*◌, ℕ, zero, suc, List, ◌++◌, length, codes, decimal}
+use Rattle.pq_base.specs.Limits.{max_class, max_rank}
 use Rattle.pq_base.specs.Name.{IsName}
 use Rattle.pq_base.specs.Prime.{IsOffered}
 use Rattle.pc_presentation.specs.declared.syllable.Syllable.{Syllable}
@@ -67,7 +68,7 @@ behind_relations = 1000000
 -- the prime p and the rank n are in range
 pub record IsScale (p n : ℕ) : Type 0 where
   pub offered : IsOffered p
-  pub limit : n ≤ 100
+  pub limit : n ≤ max_rank
 
 -- a place between two lines, by what the lines before it have said
 pub data Place : Type 0 where
@@ -82,10 +83,10 @@ pub data Place : Type 0 where
 -- the line has the form of a line in its place, which is between the first place and the second
 pub data HasForm : Place → List ℕ → Place → Type 0 where
   prime : (p : ℕ) → IsOffered p → HasForm for_prime (prime_line p) (for_class p)
-  class : (p c : ℕ) → c ≤ 60 → HasForm (for_class p) (class_line c) (for_rank p)
-  rank : (p n : ℕ) → n ≤ 100 → HasForm (for_rank p) (rank_line n) (for_order p n)
+  class : (p c : ℕ) → c ≤ max_class → HasForm (for_class p) (class_line c) (for_rank p)
+  rank : (p n : ℕ) → n ≤ max_rank → HasForm (for_rank p) (rank_line n) (for_order p n)
   order : (p n : ℕ) → IsScale p n → HasForm (for_order p n) (order_line p n) (in_body p n n 0)
-  generator : (p n m left k w : ℕ) (s : Source) → IsScale p n → suc k + left ≡ n → 1 ≤ w → w ≤ 60 → IsSource n s
+  generator : (p n m left k w : ℕ) (s : Source) → IsScale p n → suc k + left ≡ n → 1 ≤ w → w ≤ max_class → IsSource n s
       → HasForm (in_body p n (suc left) m) (source_line p (suc k) w s) (in_body p n left m)
   relation : (p n m : ℕ) (r : Relation) (w : List Syllable) → IsScale p n → IsRelation n r → m < order_of r → 1 ≤ length w
       → AreSyllables p n (side_start r) w → HasForm (in_body p n zero m) (relation_line p r w) (in_body p n zero (order_of r))

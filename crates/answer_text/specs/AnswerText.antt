@@ -3,15 +3,11 @@
 use Rattle.std.specs.Prelude.{ℕ, zero, suc, List, [], ◌∷◌, ◌++◌, get_or, codes, decimal}
 use Rattle.pq_base.specs.Answer.{Answer, Definition, class_of}
 use Rattle.pq_base.specs.Answer.Definition.{image, commutator, power}
+use Rattle.pq_base.specs.Lines.{text_of_lines}
+use Rattle.pq_base.specs.Name.{name_text}
 use Rattle.pc_presentation.specs.declared.syllable.Syllable.{Syllable}
 use Rattle.pc_presentation.specs.Syllable.{syllables_of}
-use Rattle.answer_text.specs.Lines.{text_of_lines}
 use Rattle.answer_text.specs.Words.{generator_text, word_text}
-
--- name number i, counted from 1
-abbrev pub name_text : List (List ℕ) → ℕ → List ℕ
-name_text names zero = []
-name_text names (suc i) = get_or names i []
 
 abbrev pub commutator_text : ℕ → ℕ → List ℕ
 commutator_text j i = codes "[" ++ (generator_text j ++ (codes "," ++ (generator_text i ++ codes "]")))

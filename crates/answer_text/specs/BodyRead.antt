@@ -1,9 +1,10 @@
 -- What was read of the lines behind the generators: each has its form in its place, and they are those of a presentation,
 -- of names and of words.
 use Rattle.std.specs.Prelude.{◌≡◌, ◌<◌, ◌≤◌, ◌+◌, ℕ, List, [], ◌∷◌, ◌++◌, length, codes}
+use Rattle.pq_base.specs.Limits.{max_class}
+use Rattle.pq_base.specs.Lines.{text_of_lines}
 use Rattle.pc_presentation.specs.Parts.{AreImages}
 use Rattle.answer_text.specs.declared.source.Source.{Source}
-use Rattle.answer_text.specs.Lines.{text_of_lines}
 use Rattle.answer_text.specs.AnswerText.{head_lines}
 use Rattle.answer_text.specs.OneText.{AreNames}
 use Rattle.answer_text.specs.AnswerPlaces.{Place, HasForm, behind_relations}
@@ -41,7 +42,7 @@ pub record IsRead (bytes : List ℕ) (end : ℕ) (ss : List Source) (S : SoFar) 
   pub rank : ℕ
   pub weights : List ℕ
   pub body : List ℕ
-  pub low_class : class ≤ 60
+  pub low_class : class ≤ max_class
   pub weight_count : length weights ≡ rank
   pub source_count : length ss ≡ rank
   pub legible : AreSources rank weights ss

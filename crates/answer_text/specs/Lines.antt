@@ -1,9 +1,5 @@
--- Texts as lists of lines, each ended by a newline byte.
-use Rattle.std.specs.Prelude.{ℕ, eqb, cond, Bool, true, false, List, [], ◌∷◌, ◌++◌}
-
-abbrev pub text_of_lines : List (List ℕ) → List ℕ
-text_of_lines [] = []
-text_of_lines (l ∷ ls) = l ++ (10 ∷ text_of_lines ls)
+-- Bytes that a text avoids.
+use Rattle.std.specs.Prelude.{ℕ, eqb, cond, Bool, true, false, List, [], ◌∷◌}
 
 -- the byte c isn't in the text
 abbrev pub avoids : ℕ → List ℕ → Bool

@@ -1,5 +1,6 @@
 -- One text has one answer.
 use Rattle.std.specs.Prelude.{◌≡◌, ◌≤◌, ℕ, List, [], ◌∷◌}
+use Rattle.pq_base.specs.Limits.{max_rank}
 use Rattle.pq_base.specs.Name.{IsName}
 use Rattle.pq_base.specs.Prime.{IsOffered}
 use Rattle.pq_base.specs.Answer.{Answer, IsAnswer}
@@ -12,7 +13,7 @@ AreNames (n ∷ ns) = IsName n × AreNames ns
 -- an answer within the limits of texts
 pub record IsWritable (A : Answer) : Type 0 where
   pub prime : IsOffered A.presentation.prime
-  pub rank_limit : A.presentation.rank ≤ 100
+  pub rank_limit : A.presentation.rank ≤ max_rank
   pub names : AreNames A.names
   pub answer : IsAnswer A
 

@@ -1,14 +1,15 @@
 -- Definitions by a number in place of a name.
 use Rattle.std.specs.Prelude.{◌≡◌, ◌<◌, ◌≤◌, ◌-◌, ℕ, List, [], ◌∷◌, get_or, length}
+use Rattle.pq_base.specs.Limits.{max_names}
 use Rattle.pq_base.specs.Answer.{Definition}
 use Rattle.pq_base.specs.Answer.Definition.{image, commutator, power}
 use Rattle.pc_presentation.specs.declared.relation.Relation.TheVariants.{Power, Commutator}
 use Rattle.answer_text.specs.declared.source.Source.{Source}
 use Rattle.answer_text.specs.declared.source.Source.TheVariants.{Image, RightSide}
 
--- where the name is one of the first 32, the number, counted from 1, is that of a name equal to it
+-- where the name is one of as many as an answer may have, the number, counted from 1, is that of a name equal to it
 abbrev pub FindsName : List (List ℕ) → List ℕ → ℕ → Type 0
-FindsName names name n = (i : ℕ) → i < length names → i < 32 → get_or names i [] ≡ name → (1 ≤ n) × (n ≤ length names) × (get_or names (n - 1) [] ≡ name)
+FindsName names name n = (i : ℕ) → i < length names → i < max_names → get_or names i [] ≡ name → (1 ≤ n) × (n ≤ length names) × (get_or names (n - 1) [] ≡ name)
 
 -- the definition is the one that the source means
 abbrev pub Resolves : List (List ℕ) → Source → Definition → Type 0

@@ -124,7 +124,7 @@ fn push_commutator_row(list: &mut Vec<Value>, answer: &Answer, j: u16) -> Result
 fn images_value(alloc: Global, answer: &Answer) -> Result<Value, NoMemory>
     ensures { IfOk result (λ v. view v ≡ list_data (images_data answer.now.names answer.now.images)) }
 {
-    // an answer has at most 32 names, so they can be counted in a u16
+    // an answer has at most `GENERATORS` names, so they can be counted in a u16
     let _pcp = answer.pcp();
     let mut list = Vec::new(alloc);
     let mut i = 0u16;

@@ -10,7 +10,7 @@ pub fn one_text_one_answer()
 {}
 
 /// Bytes that are no answer's text have their fault at one line only.
-#[tactic(auto, using(crate::proofs::FaultLaws::one_fault_line))]
+#[tactic(auto, using(crate::proofs::faults::FaultLaws::one_fault_line))]
 pub fn one_fault_line()
     ensures { OneFaultLine }
 {}

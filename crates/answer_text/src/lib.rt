@@ -8,11 +8,7 @@ pub mod laws;
 mod line_reading;
 mod pieces;
 mod reading;
-#[cfg(test)]
-mod reading_tests;
 mod source;
-#[cfg(test)]
-mod tests;
 mod values;
 mod word_reading;
 mod words;

@@ -1,6 +1,7 @@
 //! Lines of an answer's text, each read by itself.
 
 ghost use Rattle.std.specs.Prelude.{◌≡◌, ◌<◌, ◌≤◌, ◌↔◌, ℕ, true, List, ◌++◌, length, IfOk, IfSome, IfNone, IsTrue, codes};
+ghost use Rattle.pq_base.specs.Limits.{max_class, max_rank};
 ghost use Rattle.pq_base.specs.Name.{IsName};
 ghost use Rattle.pq_base.specs.Prime.{IsOffered, prime_value};
 ghost use Rattle.pc_presentation.specs.declared.syllable.Syllable.{Syllable as SyllableRecord};
@@ -30,8 +31,8 @@ pub(crate) fn prime_line(line: &[u8]) -> Option<Prime>
 
 /// The class of the line of the class.
 pub(crate) fn class_line(line: &[u8]) -> Option<u8>
-    ensures some { IfSome result (λ c. (c ≤ 60) × (line.now ≡ class_line c)) }
-    ensures none { IfNone result ((c : ℕ) → c ≤ 60 → ¬ (line.now ≡ class_line c)) }
+    ensures some { IfSome result (λ c. (c ≤ max_class) × (line.now ≡ class_line c)) }
+    ensures none { IfNone result ((c : ℕ) → c ≤ max_class → ¬ (line.now ≡ class_line c)) }
 {
     let c = number(behind(line, b"class ")?)?;
     if c <= u16::from(CLASS) {
@@ -43,8 +44,8 @@ pub(crate) fn class_line(line: &[u8]) -> Option<u8>
 
 /// The rank of the line of the rank.
 pub(crate) fn rank_line(line: &[u8]) -> Option<u16>
-    ensures some { IfSome result (λ n. (n ≤ 100) × (line.now ≡ rank_line n)) }
-    ensures none { IfNone result ((n : ℕ) → n ≤ 100 → ¬ (line.now ≡ rank_line n)) }
+    ensures some { IfSome result (λ n. (n ≤ max_rank) × (line.now ≡ rank_line n)) }
+    ensures none { IfNone result ((n : ℕ) → n ≤ max_rank → ¬ (line.now ≡ rank_line n)) }
 {
     let n = number(behind(line, b"rank ")?)?;
     if n as usize <= RANK { Some(n) } else { None }
@@ -74,8 +75,8 @@ fn order(line: &[u8]) -> Option<(u16, u16)>
 pub(crate) fn generator_line(line: &[u8], k: u16, prime: u8, rank: u16) -> Option<(u8, Source)>
     requires k { k < 1000 }
     requires rank { rank < 1000 }
-    ensures some { IfSome result (λ x. (1 ≤ x.0) × (x.0 ≤ 60) × IsSource rank x.1 × (line.now ≡ source_line prime k x.0 x.1)) }
-    ensures none { IfNone result ((w : ℕ) (s : SourceData) → 1 ≤ w → w ≤ 60 → IsSource rank s → ¬ (line.now ≡ source_line prime k w s)) }
+    ensures some { IfSome result (λ x. (1 ≤ x.0) × (x.0 ≤ max_class) × IsSource rank x.1 × (line.now ≡ source_line prime k x.0 x.1)) }
+    ensures none { IfNone result ((w : ℕ) (s : SourceData) → 1 ≤ w → w ≤ max_class → IsSource rank s → ¬ (line.now ≡ source_line prime k w s)) }
 {
     let (number, weight, text) = numbers(line)?;
     if number != k || weight < 1 || u16::from(CLASS) < weight {

@@ -78,7 +78,7 @@ fn is_digit(byte: u8) -> bool
 }
 
 /// What a digit stands for.
-#[tactic(auto, using(crate::proofs::NumberTexts::is_digit_within))]
+#[tactic(auto, using(crate::proofs::texts::NumberTexts::is_digit_within))]
 fn digit(byte: u8) -> u16
     requires { is_digit byte ≡ true }
     ensures value { result ≡ byte - 48 }

@@ -1,11 +1,13 @@
 //! Reading an answer's text, a line at a time.
 
 ghost use Rattle.std.specs.Prelude.{◌≡◌, ◌<◌, ◌≤◌, ◌+◌, ◌-◌, ◌^◌, ◌∷◌, ◌++◌, true, [], length, IfOk, IfErr, IfSome, IfNone, OnOk, IsTrue, ◌↔◌, map, codes, ℕ, None as Nothing};
+ghost use Rattle.pq_base.specs.Limits.{max_rank};
 ghost use Rattle.pc_presentation.specs.Builder.{extended, IsAccepted};
 ghost use Rattle.pc_presentation.specs.Definition.{definition_of};
 ghost use Rattle.answer_text.specs.Sources.{AreResolved};
 ghost use Rattle.pq_base.specs.Prime.{prime_value};
-ghost use Rattle.answer_text.specs.Lines.{avoids, text_of_lines};
+ghost use Rattle.pq_base.specs.Lines.{text_of_lines};
+ghost use Rattle.answer_text.specs.Lines.{avoids};
 ghost use Rattle.answer_text.specs.AnswerText.{answer_text};
 ghost use Rattle.pc_presentation.specs.Parts.{words_of};
 ghost use Rattle.answer_text.specs.AnswerFaults.{IsAnswerText, IsFaultOf};
@@ -122,7 +124,7 @@ fn next_line(rest: &[u8]) -> Option<(&[u8], &[u8])>
 fn read_head(bytes: &[u8]) -> Result<(Head, &[u8]), AnswerFault>
     ensures ok { IfOk result (λ x. IsHead (prime_value x.0.prime) x.0.rank bytes.now x.1.now) }
     ensures shorter { IfOk result (λ x. length x.1.now + 4 ≤ length bytes.now) }
-    ensures limit { IfOk result (λ x. x.0.rank ≤ 100) }
+    ensures limit { IfOk result (λ x. x.0.rank ≤ max_rank) }
     ensures err { IfErr result (IsBadAt for_prime bytes.now 1) }
 {
     let Some((line, rest)) = next_line(bytes) else {
@@ -141,7 +143,7 @@ fn read_head(bytes: &[u8]) -> Result<(Head, &[u8]), AnswerFault>
 fn read_size(prime: Prime, text: &[u8]) -> Result<(u16, &[u8]), AnswerFault>
     ensures ok { IfOk result (λ x. IsSize (prime_value prime) x.0 text.now x.1.now) }
     ensures shorter { IfOk result (λ x. length x.1.now + 3 ≤ length text.now) }
-    ensures limit { IfOk result (λ x. x.0 ≤ 100) }
+    ensures limit { IfOk result (λ x. x.0 ≤ max_rank) }
     ensures err { IfErr result (IsBadAt (for_class (prime_value prime)) text.now 2) }
 {
     let Some((line, rest)) = next_line(text) else {
@@ -171,7 +173,7 @@ fn read_generators<'a>(
     head: Head,
     text: &'a [u8],
 ) -> Result<(Vec<u8>, Vec<Source>, &'a [u8]), AnswerFault>
-    requires { head.rank ≤ 100 }
+    requires { head.rank ≤ max_rank }
     ensures ok { IfOk result (λ x. (length x.0.items ≡ head.rank) × (length x.1.items ≡ head.rank) × AreSources head.rank x.0.items x.1.items
         × (text.now ≡ text_of_lines (source_lines (prime_value head.prime) 0 x.0.items x.1.items) ++ x.2.now)) }
     ensures shorter { IfOk result (λ x. length x.2.now + head.rank ≤ length text.now) }
@@ -234,7 +236,7 @@ fn place(relation: Relation) -> u32
 
 /// Reads relations and images to the end of the bytes, and gives the number of the last line.
 fn read_body(body: &mut Body, head: Head, text: &[u8]) -> Result<u32, AnswerFault>
-    requires rank { head.rank ≤ 100 }
+    requires rank { head.rank ≤ max_rank }
     requires limit { length text.now + head.rank + 4 < 2 ^ 32 - 1 }
     requires start { IsBodyRead (prime_value head.prime) head.rank body.now.builder.built.weights text.now text.now (head.rank + 5)
         (so_far body.now.builder body.now.last body.now.names.items (words_of body.now.images.items)) }
@@ -263,7 +265,7 @@ fn read_body(body: &mut Body, head: Head, text: &[u8]) -> Result<u32, AnswerFaul
 
 /// Adds what a line says, and says whether it has the form of a relation or an image in its place.
 fn add_line(body: &mut Body, head: Head, line: &[u8]) -> Result<bool, NoMemory>
-    requires { head.rank ≤ 100 }
+    requires { head.rank ≤ max_rank }
     ensures added { IfOk result (λ b. IsTrue b → Adds (prime_value head.prime) head.rank (so_far body.old.builder body.old.last body.old.names.items (words_of body.old.images.items))
         (so_far body.new.builder body.new.last body.new.names.items (words_of body.new.images.items)) line.now) }
     ensures refused { IfOk result (λ b. ¬ IsTrue b → IsDraft (prime_value head.prime) head.rank body.old.builder body.old.last

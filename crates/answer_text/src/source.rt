@@ -9,6 +9,7 @@ ghost use Rattle.answer_text.specs.Sources.{Resolves, FindsName};
 use crate::pieces::{behind, left_side};
 use pc_presentation::{Definition, Relation};
 use pq_base::Name;
+use pq_base::limits::GENERATORS;
 
 /// Where a generator comes from.
 #[derive(Debug, Drop)]
@@ -32,7 +33,7 @@ impl Source {
         }
     }
 
-    /// The definition by the number of the name among these, which is 0 where it isn't one of the first 32.
+    /// The definition by the number of the name among these, which is 0 where it isn't one of the first `GENERATORS`.
     pub(crate) fn definition(&self, names: &[Name]) -> Definition
         ensures { Resolves names.now self.now (definition_of result) }
     {
@@ -44,13 +45,13 @@ impl Source {
     }
 }
 
-/// The number of a name among these, counted from 1, or 0 where it isn't one of the first 32.
+/// The number of a name among these, counted from 1, or 0 where it isn't one of the first `GENERATORS`.
 fn number_in(names: &[Name], name: &Name) -> u16
     ensures { FindsName names.now name.now result }
 {
     let mut number = 0;
     for other in names {
-        if number == 32 {
+        if usize::from(number) == GENERATORS {
             return 0;
         }
         number += 1;

@@ -1,9 +1,9 @@
 // Words, definitions and relations as JSON values.
 ghost use Rattle.std.specs.Prelude.{◌≡◌, ◌++◌, [], ◌∷◌, IfOk, OnOk, map};
+ghost use Rattle.pq_base.specs.Name.{name_text};
 ghost use Rattle.serde_json.specs.Data.{string};
 ghost use Rattle.serde_json.specs.View.{view};
 ghost use Rattle.pc_presentation.specs.Definition.{definition_of};
-ghost use Rattle.answer_text.specs.AnswerText.{name_text};
 ghost use Rattle.answer_text.specs.AnswerData.{syllable_data, word_data, definition_data, power_data, commutator_data, list_data};
 
 use pc_presentation::{Definition, Syllable};

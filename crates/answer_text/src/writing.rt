@@ -1,10 +1,11 @@
 // The text of an answer, part by part.
 ghost use Rattle.std.specs.Prelude.{◌≡◌, ◌<◌, ◌≤◌, ◌++◌, ◌-◌, [], ◌∷◌, OnOk, IfOk, get_or, length, codes};
 ghost use Rattle.pq_base.specs.Answer.{class_of, definition_at};
+ghost use Rattle.pq_base.specs.Lines.{text_of_lines};
+ghost use Rattle.pq_base.specs.Name.{name_text};
 ghost use Rattle.pc_presentation.specs.Definition.{definition_of};
-ghost use Rattle.answer_text.specs.Lines.{text_of_lines};
 ghost use Rattle.answer_text.specs.Words.{AreExponents, word_text};
-ghost use Rattle.answer_text.specs.AnswerText.{answer_text, name_text, head_lines, definition_text, generator_line, generator_lines, relation_lines, power_text, power_lines, commutator_text, commutator_row_lines, commutator_lines, image_line, image_lines};
+ghost use Rattle.answer_text.specs.AnswerText.{answer_text, head_lines, definition_text, generator_line, generator_lines, relation_lines, power_text, power_lines, commutator_text, commutator_row_lines, commutator_lines, image_line, image_lines};
 
 use crate::words::{push_generator, push_number, push_word};
 use pc_presentation::{Answer, Definition, Relation, Syllable};
@@ -221,7 +222,7 @@ fn push_commutator_relation(
 fn push_images(out: &mut Vec<u8>, answer: &Answer) -> Result<(), NoMemory>
     ensures { OnOk result (out.new.items ≡ out.old.items ++ text_of_lines (image_lines answer.now.names answer.now.images)) }
 {
-    // an answer has at most 32 names, so they can be counted in a u16
+    // an answer has at most `GENERATORS` names, so they can be counted in a u16
     let _pcp = answer.pcp();
     let mut i = 0u16;
     for name in answer.names() {

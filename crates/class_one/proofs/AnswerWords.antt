@@ -4,7 +4,7 @@ use Rattle.pq_base.specs.Canonical.{numbers_from}
 use Rattle.pq_base.specs.ClassOne.{left_count}
 use Rattle.pc_presentation.specs.Syllable.{spread, syllables_of}
 use Rattle.pc_presentation.specs.Parts.{AreImages}
-use Rattle.pc_presentation.proofs.SyllableLaws.{spread-syllables_of, AreSyllables-syllables_of}
+use Rattle.pc_presentation.proofs.presentations.SyllableLaws.{spread-syllables_of, AreSyllables-syllables_of}
 use Rattle.class_one.specs.FirstClass.{first_class_image, first_class_answer}
 use Rattle.class_one.specs.Parts.{answer_with, image_words_of}
 use Rattle.class_one.proofs.FirstClassFacts.{AreReduced, first_class_image-normal}

@@ -1,11 +1,11 @@
 -- Parts of a group whose elements commute and have trivial p-th powers: there an exponent counts modulo p alone.
 use Rattle.std.proofs.Common.{◌≡◌, ℕ, zero, suc, ◌+◌, ◌-◌, ◌*◌, ◌/◌, ◌%◌, ◌≤◌, [], ◌∷◌, refl, ap, arith}
 use Rattle.std.proofs.Math.Nat.{zero-add, suc-add, mul-suc, mul-zero, div-add-mod}
-use Rattle.pq_base.proofs.Groups.{Group, power_in, same_from_equal, times-same_left, times-same_right, power_in-same, inverse_in-unique}
-use Rattle.pq_base.proofs.GroupLevels.{IsClosed}
-use Rattle.pq_base.proofs.GroupCommute.{Commute}
-use Rattle.pq_base.proofs.GroupSolver.{by_reduction}
-use Rattle.pq_base.proofs.GroupSolver.Product.{at, product}
+use Rattle.pq_base.proofs.groups.Groups.{Group, power_in, same_from_equal, times-same_left, times-same_right, power_in-same, inverse_in-unique}
+use Rattle.pq_base.proofs.groups.GroupLevels.{IsClosed}
+use Rattle.pq_base.proofs.groups.GroupCommute.{Commute}
+use Rattle.pq_base.proofs.groups.GroupSolver.{by_reduction}
+use Rattle.pq_base.proofs.groups.GroupSolver.Product.{at, product}
 
 module _ (G : Group) where
   pub power_in-add : (a : G.carrier) (m n : ℕ) → G.same (power_in G a (m + n)) (G.times (power_in G a m) (power_in G a n))

@@ -7,7 +7,7 @@ use Rattle.pq_base.specs.Table.{Table, IsGroup, value}
 use Rattle.pq_base.specs.Presentation.{normal_word}
 use Rattle.pq_base.specs.Answer.{Answer, image_words, spell}
 use Rattle.pq_base.specs.Largest.{IsGenerated, Factors}
-use Rattle.pq_base.proofs.TableGroup.{value-letter, value-sub, value-joined}
+use Rattle.pq_base.proofs.tables.TableGroup.{value-letter, value-sub, value-joined}
 
 module _ (T : Table) (group : IsGroup T) (f : List ℕ) (A : Answer) (generated : IsGenerated A) (count : length f ≡ length A.images) where
   -- the values of the images are the given list

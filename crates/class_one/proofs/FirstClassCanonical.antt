@@ -11,9 +11,10 @@ use Rattle.pq_base.specs.Canonical.{numbers_from, unit, new_count, new_part, ran
 use Rattle.pq_base.specs.ClassOne.{left_count, class_one_definitions}
 use Rattle.pq_base.proofs.LeftGenerators.{left_before, left_before-below, left_place, LeftPlace, get_or-class_one_definitions}
 use Rattle.pq_base.proofs.ElementaryTables.{last_or_zero-limit}
-use Rattle.class_one.specs.FirstClass.{left_of, negative_row, first_class_image, first_class_answer, IsRelatorBasis, FirstClassAnswerIsCanonical}
+use Rattle.fp_rows.proofs.RowLaws.{length-negative_row}
+use Rattle.fp_rows.specs.Rows.{negative_row}
+use Rattle.class_one.specs.FirstClass.{left_of, first_class_image, first_class_answer, IsRelatorBasis, FirstClassAnswerIsCanonical}
 use Rattle.class_one.proofs.LeftMembers.{left_before-zero, length-left_of, get_or-left_of, left_flag, left_before-past, left_before-suc_true, left_before-suc_false, left_before-less}
-use Rattle.class_one.proofs.PivotValues.{length-negative_row}
 use Rattle.class_one.proofs.FirstClassFacts.{first_class_image-pivot, first_class_image-left, first_class_image-normal}
 use Rattle.class_one.proofs.FirstClassOrder.{first_class_answer-obeys_weights, rank_up_to-zero, new_count-zero, want_order-zero, new_part-zero}
 

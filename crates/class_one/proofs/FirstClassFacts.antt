@@ -6,6 +6,7 @@ use Rattle.std.proofs.lemmas.List.{get_or-map as get_or-map_within, map_push}
 use Rattle.std.proofs.Math.Nat.{zero-add}
 use Rattle.std.proofs.lemmas.List.{length-replicate, get_or-replicate, length-map}
 use Rattle.std.proofs.lemmas.Nat.{mod_below}
+use Rattle.pq_base.specs.Limits.{max_names}
 use Rattle.pq_base.specs.LPresentation.{AreDistinct}
 use Rattle.pq_base.specs.Table.{AllBelow}
 use Rattle.pq_base.specs.Presentation.{IsNormal, letter, normal_word}
@@ -17,34 +18,19 @@ use Rattle.pq_base.proofs.ElementarySides.{elementary-presentation}
 use Rattle.pq_base.proofs.UnitLaws.{length-unit, unit-below, word_from-unit}
 use Rattle.pq_base.proofs.LeftGenerators.{left_before, left_before-below, left_place, length-class_one_definitions, get_or-class_one_definitions}
 use Rattle.pq_base.proofs.ElementaryTables.{replicate-weights}
-use Rattle.class_one.specs.FirstClass.{left_of, negative_row, image_where, first_class_image, first_class_answer, IsPivotRow}
+use Rattle.pq_base.proofs.NumberLists.{length-numbers_from, get_or-map_numbers, map_numbers-push}
+use Rattle.fp_rows.proofs.RowLaws.{length-negative_row, negative_row-below}
+use Rattle.fp_rows.specs.Rows.{negative_row}
+use Rattle.class_one.specs.FirstClass.{left_of, image_where, first_class_image, first_class_answer, IsPivotRow}
 use Rattle.class_one.proofs.LeftMembers.{length-left_of, left_before-take, left_flag}
-use Rattle.class_one.proofs.PivotValues.{length-negative_row}
 
 -- numbers
-pub length-numbers_from : (a n : ℕ) → length (numbers_from a n) ≡ n
-length-numbers_from a zero = refl
-length-numbers_from a (suc n) = ap suc (length-numbers_from (suc a) n)
+pub get_or-map_places : {A : Type 0} → (F : ℕ → A) (n i : ℕ) (d : A) → i < n → get_or (map F (numbers_from 0 n)) i d ≡ F i
+get_or-map_places F n i d h = get_or-map_numbers F 0 n i d h ∙ ap F (zero-add i)
 
-pub get_or-numbers_from : (a n i d : ℕ) → i < n → get_or (numbers_from a n) i d ≡ a + i
-get_or-numbers_from a zero i d h = absurd (omega arith)
-get_or-numbers_from a (suc n) zero d h = omega arith
-get_or-numbers_from a (suc n) (suc i) d h = omega (arith, get_or-numbers_from (suc a) n i d (omega arith))
-
-pub get_or-map_numbers : {A : Type 0} → (F : ℕ → A) (n i : ℕ) (d : A) → i < n → get_or (map F (numbers_from 0 n)) i d ≡ F i
-get_or-map_numbers F n i d h =
-    let long : length (numbers_from 0 n) ≡ n = length-numbers_from 0 n in
-    get_or-map_within F (numbers_from 0 n) i 0 d (omega arith) ∙ ap F (get_or-numbers_from 0 n i 0 h ∙ zero-add i)
-
-numbers_from-push : (a n : ℕ) → numbers_from a (suc n) ≡ numbers_from a n ++ (a + n) ∷ []
-numbers_from-push a zero = let place : a ≡ a + 0 = omega arith in ap (λ (k : ℕ). k ∷ []) place
-numbers_from-push a (suc n) =
-    let place : suc a + n ≡ a + suc n = omega arith in
-    ap (λ (l : List ℕ). a ∷ l) (numbers_from-push (suc a) n ∙ ap (λ (k : ℕ). numbers_from (suc a) n ++ k ∷ []) place)
-
-pub map_numbers-more : {A : Type 0} → (F : ℕ → A) (n : ℕ) → map F (numbers_from 0 (n + 1)) ≡ map F (numbers_from 0 n) ++ F n ∷ []
-map_numbers-more F n =
-    ap (λ (k : ℕ). map F (numbers_from 0 k)) (add-one n) ∙ ap (map F) (numbers_from-push 0 n) ∙ map_push F (numbers_from 0 n) (0 + n)
+pub map_places-more : {A : Type 0} → (F : ℕ → A) (n : ℕ) → map F (numbers_from 0 (n + 1)) ≡ map F (numbers_from 0 n) ++ F n ∷ []
+map_places-more F n =
+    ap (λ (k : ℕ). map F (numbers_from 0 k)) (add-one n) ∙ map_numbers-push F 0 n
     ∙ ap (λ (k : ℕ). map F (numbers_from 0 n) ++ F k ∷ []) (zero-add n)
 
 pub AreNormal-map_numbers : (p n : ℕ) (F : ℕ → List ℕ) (a m : ℕ) → ((i : ℕ) → IsNormal p n (F i)) → AreNormal p n (map F (numbers_from a m))
@@ -52,10 +38,6 @@ AreNormal-map_numbers p n F a zero h = tt
 AreNormal-map_numbers p n F a (suc m) h = (h a, AreNormal-map_numbers p n F (suc a) m h)
 
 -- images
-negative_row-below : (p : ℕ) (xs : List ℕ) → 1 ≤ p → AllBelow p (negative_row p xs)
-negative_row-below p [] h = tt
-negative_row-below p (x ∷ xs) h = (mod_below (p - x) p (omega arith), negative_row-below p xs h)
-
 pub first_class_image-pivot : (p : ℕ) (pivots : List Bool) (rows : List (List ℕ)) (i : ℕ) → get_or pivots i false ≡ true
     → first_class_image p pivots rows i ≡ negative_row p (left_of pivots (get_or rows i []))
 first_class_image-pivot p pivots rows i e = ap (λ (b : Bool). image_where b p pivots rows i) e
@@ -88,7 +70,7 @@ pub first_class_image_word : (p : ℕ) (names : List (List ℕ)) (pivots : List 
     → get_or (image_words (first_class_answer p names pivots rows)) i [] ≡ normal_word (first_class_image p pivots rows i)
 first_class_image_word p names pivots rows i h =
     get_or-map normal_word (map (first_class_image p pivots rows) (numbers_from 0 (length names))) i []
-    ∙ ap normal_word (get_or-map_numbers (first_class_image p pivots rows) (length names) i [] h)
+    ∙ ap normal_word (get_or-map_places (first_class_image p pivots rows) (length names) i [] h)
 
 pub first_class_image_word-left : (p : ℕ) (names : List (List ℕ)) (pivots : List Bool) (rows : List (List ℕ)) (i : ℕ) → i < length names
     → get_or pivots i true ≡ false
@@ -121,10 +103,10 @@ definition_holds p names pivots rows count m h =
     (get_or-replicate (left_count pivots) m 1 0 h, omega (arith, length-images p names pivots rows), word)
 
 pub first_class_answer-is_answer : (p : ℕ) (names : List (List ℕ)) (pivots : List Bool) (rows : List (List ℕ)) → 2 ≤ p
-    → 1 ≤ length names → length names ≤ 32 → AreDistinct names → length pivots ≡ length names → AreReduced p pivots rows
+    → 1 ≤ length names → length names ≤ max_names → AreDistinct names → length pivots ≡ length names → AreReduced p pivots rows
     → IsAnswer (first_class_answer p names pivots rows)
 first_class_answer-is_answer p names pivots rows h some limit distinct count reduced = record {
-  presentation = elementary-presentation p (left_count pivots) (omega arith);
+  presentation = elementary-presentation p (left_count pivots) h;
   weight_count = length-replicate (left_count pivots) 1;
   weights = replicate-weights (left_count pivots);
   some_name = some;

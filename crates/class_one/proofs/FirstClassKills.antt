@@ -12,21 +12,23 @@ use Rattle.pq_base.specs.Answer.{image_words}
 use Rattle.pq_base.specs.Largest.{Kills}
 use Rattle.pq_base.specs.ClassOne.{left_count}
 use Rattle.pq_base.specs.Elementary.{elementary}
-use Rattle.pq_base.proofs.Groups.{Group, value_in}
-use Rattle.pq_base.proofs.WordGroup.{word_group, value_in-word_group}
+use Rattle.pq_base.proofs.groups.Groups.{Group, value_in}
+use Rattle.pq_base.proofs.words.WordGroup.{word_group, value_in-word_group}
 use Rattle.pq_base.proofs.SeriesLaws.{HasLetters-closed, power_in-word_group}
-use Rattle.pq_base.proofs.LetterLaws.{HasLetters-comm, HasLetters-copies, HasLetters-get_or, HasLetters-normal_word}
-use Rattle.pq_base.proofs.RangeLaws.{generators, length-letters_from, get_or-generators, sub-generators, AreWords-letters_from}
-use Rattle.pq_base.proofs.JoinedLaws.{joined-from_equal, joined-sym, joined-trans, commute-from_comm}
+use Rattle.pq_base.proofs.words.LetterLaws.{HasLetters-comm, HasLetters-copies, HasLetters-get_or, HasLetters-normal_word}
+use Rattle.pq_base.proofs.words.RangeLaws.{generators, length-letters_from, get_or-generators, sub-generators, AreWords-letters_from}
+use Rattle.pq_base.proofs.words.JoinedLaws.{joined-from_equal, joined-sym, joined-trans, commute-from_comm}
 use Rattle.pq_base.proofs.ExponentSums.{exponent_sum, exponent_sum-copies, exponent_sum-comm, count_letters}
 use Rattle.pq_base.proofs.ElementaryLaws.{trivial-from_sums}
 use Rattle.pq_base.proofs.LeftGenerators.{left_place}
+use Rattle.fp_rows.proofs.RowLaws.{length-negative_row}
+use Rattle.fp_rows.specs.Rows.{negative_row}
 use Rattle.class_one.specs.ExponentRows.{sums_mod}
-use Rattle.class_one.specs.FirstClass.{left_of, negative_row, first_class_image, first_class_answer, IsPivotRow, IsBasisRow, IsRelatorBasis}
+use Rattle.class_one.specs.FirstClass.{left_of, first_class_image, first_class_answer, IsPivotRow, IsBasisRow, IsRelatorBasis}
 use Rattle.class_one.proofs.ElementaryParts.{IsElementaryIn}
 use Rattle.class_one.proofs.RowValues.{row_value, value_in-word_from, row_value-sums_mod, combination-trivial, AreIn}
 use Rattle.class_one.proofs.LeftMembers.{length-left_of, get_or-left_of}
-use Rattle.class_one.proofs.PivotValues.{length-negative_row, pivot_row-trivial}
+use Rattle.class_one.proofs.PivotValues.{pivot_row-trivial}
 use Rattle.class_one.proofs.FirstClassFacts.{first_class_image-pivot, first_class_image_word, first_class_image_word-left, length-images, first_class_image-normal}
 
 -- words over the generators of an elementary presentation commute, and their powers are trivial

@@ -10,7 +10,7 @@ use Rattle.pq_base.specs.ClassOne.{left_count, class_one_definitions}
 use Rattle.pq_base.proofs.ExponentSums.{exponent_sum, exponent_sum-word_from}
 use Rattle.pq_base.proofs.ElementarySides.{power_word-elementary, commutator_word-elementary}
 use Rattle.class_one.specs.FirstClass.{first_class_answer, first_class_image}
-use Rattle.class_one.proofs.FirstClassFacts.{get_or-map_numbers}
+use Rattle.class_one.proofs.FirstClassFacts.{get_or-map_places}
 
 -- right sides have no entry but 0
 entry-of_empty_word : (k : ℕ) (e : List ℕ) (m : ℕ) → word_from k e ≡ [] → get_or e m 0 ≡ 0
@@ -55,5 +55,5 @@ module _ (p : ℕ) (names : List (List ℕ)) (pivots : List Bool) (rows : List (
       → new_part (first_class_answer p names pivots rows) 0 (image (suc i)) ≡ first_class_image p pivots rows i
   new_part-zero i h long =
       ap₂ (λ (n m : ℕ). take n (drop (m - 0) (get_or (first_class_answer p names pivots rows).images i []))) new_count-zero rank_up_to-zero
-      ∙ ap (take (left_count pivots)) (get_or-map_numbers (first_class_image p pivots rows) (length names) i [] h)
+      ∙ ap (take (left_count pivots)) (get_or-map_places (first_class_image p pivots rows) (length names) i [] h)
       ∙ take_all (left_count pivots) (first_class_image p pivots rows i) (omega arith)

@@ -9,17 +9,19 @@ use Rattle.pq_base.specs.Presentation.{normal_word}
 use Rattle.pq_base.specs.Answer.{image_words}
 use Rattle.pq_base.specs.Largest.{IsUniversal, IsGenerated, Factors}
 use Rattle.pq_base.specs.ClassOne.{left_count}
-use Rattle.pq_base.proofs.Groups.{Group}
-use Rattle.pq_base.proofs.GroupCommute.{commute-from_commutator}
-use Rattle.pq_base.proofs.TableGroup.{Element, table_group, elements, get_or-elements, value_in-table_group, power_in-table_group, value-letter}
+use Rattle.pq_base.proofs.groups.Groups.{Group}
+use Rattle.pq_base.proofs.groups.GroupCommute.{commute-from_commutator}
+use Rattle.pq_base.proofs.tables.TableGroup.{Element, table_group, elements, get_or-elements, value_in-table_group, power_in-table_group, value-letter}
 use Rattle.pq_base.proofs.LeftGenerators.{left_before}
 use Rattle.pq_base.proofs.ElementaryTables.{power-neutral, commutator-neutral, obeys_relators}
+use Rattle.fp_rows.proofs.RowLaws.{length-negative_row}
+use Rattle.fp_rows.specs.Rows.{negative_row}
 use Rattle.class_one.specs.ExponentRows.{sums_mod}
-use Rattle.class_one.specs.FirstClass.{left_of, negative_row, first_class_answer, IsRelatorRow, IsRelatorBasis}
+use Rattle.class_one.specs.FirstClass.{left_of, first_class_answer, IsRelatorRow, IsRelatorBasis}
 use Rattle.class_one.proofs.ElementaryParts.{IsElementaryIn}
 use Rattle.class_one.proofs.RowValues.{row_value, value_in-word_from, length-sums_mod, row_value-sums_mod, combination-trivial}
 use Rattle.class_one.proofs.LeftMembers.{length-left_of, get_or-left_of, left_of-below}
-use Rattle.class_one.proofs.PivotValues.{length-negative_row, pivot-is_negative}
+use Rattle.class_one.proofs.PivotValues.{pivot-is_negative}
 use Rattle.class_one.proofs.FirstClassFacts.{first_class_image-pivot, first_class_image_word, first_class_image_word-left, length-images}
 use Rattle.class_one.proofs.FactorsOnceLaws.{factors-unique}
 

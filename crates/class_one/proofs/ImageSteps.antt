@@ -8,11 +8,13 @@ use Rattle.pq_base.specs.Answer.{Definition as Source}
 use Rattle.pq_base.specs.Answer.Definition.{image}
 use Rattle.pq_base.specs.Canonical.{unit}
 use Rattle.pq_base.specs.ClassOne.{left_count, class_one_definitions}
+use Rattle.pc_presentation.proofs.presentations.SyllableParts.{syllables_of-zeros}
+use Rattle.fp_rows.proofs.RowLaws.{length-negative_row}
+use Rattle.fp_rows.specs.Rows.{negative_row}
 use Rattle.pc_presentation.specs.declared.syllable.Syllable.{Syllable}
 use Rattle.pc_presentation.specs.Syllable.{syllable, syllables_of}
-use Rattle.class_one.specs.FirstClass.{left_of, negative_row}
+use Rattle.class_one.specs.FirstClass.{left_of}
 use Rattle.class_one.proofs.LeftMembers.{length-left_of}
-use Rattle.class_one.proofs.PivotValues.{length-negative_row}
 
 -- one more at the end
 left_count-push_true : (flags : List Bool) → left_count (flags ++ true ∷ []) ≡ left_count flags
@@ -133,10 +135,6 @@ module _ (p : ℕ) (flags : List Bool) (xs : List ℕ) (wide : length xs ≡ len
       ∙ ap (λ (k : ℕ). front_image p flags xs i ++ syllables_of k (((p - get_or xs i 0) % p) ∷ [])) place
 
 -- the syllables of a unit
-syllables_of-zeros : (k n : ℕ) → syllables_of k (replicate n 0) ≡ []
-syllables_of-zeros k zero = refl
-syllables_of-zeros k (suc n) = syllables_of-zeros (suc k) n
-
 pub syllables_of-unit : (k n i : ℕ) → i < n → syllables_of k (unit n i) ≡ syllable (suc (k + i)) 1 ∷ []
 syllables_of-unit k zero i h = absurd (omega arith)
 syllables_of-unit k (suc n) zero h =

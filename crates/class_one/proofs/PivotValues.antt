@@ -5,17 +5,13 @@ use Rattle.std.proofs.Math.Nat.{mod-add-mod, mod_self}
 use Rattle.std.proofs.lemmas.List.{get_or_past}
 use Rattle.pq_base.specs.Table.{AllBelow}
 use Rattle.pq_base.specs.Elementary.{zeros}
-use Rattle.pq_base.proofs.Groups.{Group, power_in, same_from_equal, times-same_left, times-same_right, inverse_in-unique, inverse_in-inverse}
-use Rattle.fp_rows.specs.Rows.{add_rows}
-use Rattle.fp_rows.proofs.RowLaws.{add_rows_comm}
-use Rattle.class_one.specs.FirstClass.{left_of, negative_row, IsPivotRow}
+use Rattle.pq_base.proofs.groups.Groups.{Group, power_in, same_from_equal, times-same_left, times-same_right, inverse_in-unique, inverse_in-inverse}
+use Rattle.fp_rows.specs.Rows.{add_rows, negative_row}
+use Rattle.fp_rows.proofs.RowLaws.{add_rows_comm, length-negative_row}
+use Rattle.class_one.specs.FirstClass.{left_of, IsPivotRow}
 use Rattle.class_one.proofs.ElementaryParts.{IsElementaryIn, elementary_power-in}
 use Rattle.class_one.proofs.RowValues.{row_value, row_value-zeros, row_value-add_rows, AreIn}
 use Rattle.class_one.proofs.LeftMembers.{left_of-below}
-
-pub length-negative_row : (p : ℕ) (xs : List ℕ) → length (negative_row p xs) ≡ length xs
-length-negative_row p [] = refl
-length-negative_row p (x ∷ xs) = ap suc (length-negative_row p xs)
 
 pub negative_row-cancels : (p : ℕ) (xs : List ℕ) → AllBelow p xs → add_rows p (negative_row p xs) xs ≡ zeros (length xs)
 negative_row-cancels p [] h = refl

@@ -1,5 +1,6 @@
 -- What is read off a basis of the exponent sums of the relators: an answer, the largest quotient of class 1, and canonical.
 use Rattle.std.proofs.Common.{◌≡◌, ℕ, ◌≤◌, Bool, List, length, ap, ap₂, sym, ◌∙◌, subst, arith}
+use Rattle.pq_base.specs.Limits.{max_names}
 use Rattle.pq_base.specs.LPresentation.{LPresentation, IsLPresentation}
 use Rattle.pq_base.specs.Answer.{IsAnswer}
 use Rattle.pq_base.specs.Largest.{IsLargest}
@@ -30,10 +31,10 @@ module _ (L : LPresentation) (p : ℕ) (B : Echelon) (of_sums : IsBasisOfSums L 
   flags-are : pivots ≡ pivot_flags m B.rows
   flags-are = flags ∙ ap (λ (n : ℕ). pivot_flags n B.rows) of_sums.width
 
-  pub few-flags : IsWithinLimits L → length pivots ≤ 32
+  pub few-flags : IsWithinLimits L → length pivots ≤ max_names
   few-flags limits =
       let long : length pivots ≡ m = ap length flags-are ∙ length-pivot_flags m B.rows in
-      let few : m ≤ 32 = limits.generators in
+      let few : m ≤ max_names = limits.generators in
       omega arith
 
   -- the images were read off with these flags

@@ -5,9 +5,10 @@ use Rattle.pq_base.specs.ClassOne.{left_count}
 use Rattle.pq_base.proofs.LeftGenerators.{left_before, left_before-below}
 use Rattle.pc_presentation.specs.Syllable.{syllable, syllables_of}
 use Rattle.fp_rows.specs.Row.{PrimeRow}
+use Rattle.fp_rows.specs.Rows.{negative_row}
 use Rattle.fp_echelon.specs.Reduced.{IsPivot, at_pivot}
 use Rattle.fp_echelon.specs.Basis.{Echelon, IsBasis}
-use Rattle.class_one.specs.FirstClass.{left_of, negative_row, first_class_image}
+use Rattle.class_one.specs.FirstClass.{left_of, first_class_image}
 use Rattle.class_one.specs.BasisOfSums.{pivot_flags, pivot_rows}
 use Rattle.class_one.proofs.FirstClassFacts.{first_class_image-pivot, first_class_image-left}
 use Rattle.class_one.proofs.LeftMembers.{left_before-take}

@@ -5,6 +5,7 @@ use Rattle.std.specs.Prelude.{All}
 use Rattle.std.proofs.lemmas.List.{length-map}
 use Rattle.pq_base.specs.LPresentation.{LPresentation}
 use Rattle.pq_base.specs.Canonical.{numbers_from}
+use Rattle.pq_base.proofs.NumberLists.{length-numbers_from}
 use Rattle.fp_rows.specs.Rows.{scale_row}
 use Rattle.fp_rows.specs.Row.{at_column}
 use Rattle.fp_rows.proofs.RowLaws.{add_rows_comm}
@@ -17,7 +18,7 @@ use Rattle.class_one.specs.ExponentRows.{sums_mod}
 use Rattle.class_one.specs.FirstClass.{IsCombination, IsPivotRow, IsRelatorRow, IsBasisRow, IsRelatorBasis}
 use Rattle.class_one.specs.FirstClass.IsCombination.{no_row, plus_row}
 use Rattle.class_one.specs.BasisOfSums.{is_pivot, pivot_flags, pivot_rows, IsBasisOfSums}
-use Rattle.class_one.proofs.FirstClassFacts.{length-numbers_from, get_or-map_numbers}
+use Rattle.class_one.proofs.FirstClassFacts.{get_or-map_places}
 use Rattle.class_one.proofs.FirstClassKills.{flagged-within}
 use Rattle.class_one.proofs.BasisPivots.{is_pivot-true, IsPivot-is_pivot, IsMember, member-pivot, at_pivot-member, at_pivot-pivot, member-reduced, at_pivot-apart, at_pivot-own}
 
@@ -58,10 +59,10 @@ module _ (width : ℕ) (bs : List BasisRow) where
       let long : length (pivot_flags width bs) ≡ width = length-pivot_flags width bs in
       let within : i < length (pivot_flags width bs) = flagged-within (pivot_flags width bs) i flag in
       let below : i < width = omega arith in
-      (below, is_pivot-true (suc i) bs (sym (get_or-map_numbers (λ j. is_pivot (suc j) bs) width i false below) ∙ flag))
+      (below, is_pivot-true (suc i) bs (sym (get_or-map_places (λ j. is_pivot (suc j) bs) width i false below) ∙ flag))
 
   pub pivot_row-at : (i : ℕ) → i < width → get_or (pivot_rows width bs) i [] ≡ (at_pivot (suc i) bs).row
-  pivot_row-at i below = get_or-map_numbers (λ j. (at_pivot (suc j) bs).row) width i [] below
+  pivot_row-at i below = get_or-map_places (λ j. (at_pivot (suc j) bs).row) width i [] below
 
 module _ (p width : ℕ) (bs : List BasisRow) (reduced : IsReduced p width bs) where
   column-suc : (x : List ℕ) (i : ℕ) → at_column x (suc i) ≡ get_or x i 0
@@ -94,7 +95,7 @@ module _ (p width : ℕ) (bs : List BasisRow) (reduced : IsReduced p width bs) w
       let back : suc (b.pivot - 1) ≡ b.pivot = omega arith in
       record {
         place = b.pivot - 1;
-        pivot = get_or-map_numbers (λ j. is_pivot (suc j) bs) width (b.pivot - 1) false below
+        pivot = get_or-map_places (λ j. is_pivot (suc j) bs) width (b.pivot - 1) false below
             ∙ ap (λ (c : ℕ). is_pivot c bs) back ∙ IsPivot-is_pivot b.pivot bs (member-pivot b bs m);
         row = pivot_row-at width bs (b.pivot - 1) below
             ∙ ap (λ (c : ℕ). (at_pivot c bs).row) back ∙ ap (λ (r : BasisRow). r.row) (at_pivot-own p width b bs reduced m);

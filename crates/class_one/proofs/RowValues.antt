@@ -6,8 +6,8 @@ use Rattle.pq_base.specs.SignedWord.{copies}
 use Rattle.pq_base.specs.Presentation.{letter, word_from}
 use Rattle.pq_base.specs.Canonical.{unit}
 use Rattle.pq_base.specs.Elementary.{zeros}
-use Rattle.pq_base.proofs.Groups.{Group, power_in, element_in, value_in, same_from_equal, power_in-same, value_in-append, value_in-copies, value_in-letter}
-use Rattle.pq_base.proofs.GroupCommute.{power_in-times}
+use Rattle.pq_base.proofs.groups.Groups.{Group, power_in, element_in, value_in, same_from_equal, power_in-same, value_in-append, value_in-copies, value_in-letter}
+use Rattle.pq_base.proofs.groups.GroupCommute.{power_in-times}
 use Rattle.pq_base.proofs.UnitLaws.{length-unit}
 use Rattle.fp_rows.specs.Rows.{add_rows, scale_row}
 use Rattle.fp_rows.proofs.RowLaws.{length-add_rows, length-scale_row}

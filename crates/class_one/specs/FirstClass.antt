@@ -3,13 +3,14 @@
 -- pivot is the combination of the others that its row names.
 -- From: the first step of Newman and O'Brien's p-quotient method.
 use Rattle.std.specs.Prelude.{◌≡◌, ◌≢◌, ◌<◌, ◌≤◌, ◌-◌, ◌%◌, ℕ, ℤ, Bool, true, false, List, [], ◌∷◌, get_or, length, map, take, replicate}
+use Rattle.pq_base.specs.Limits.{max_names}
 use Rattle.pq_base.specs.LPresentation.{LPresentation, IsLPresentation, IsRelator}
 use Rattle.pq_base.specs.Answer.{Answer}
 use Rattle.pq_base.specs.Largest.{IsLargest}
 use Rattle.pq_base.specs.Canonical.{numbers_from, unit, IsCanonical}
 use Rattle.pq_base.specs.Elementary.{zeros, elementary}
 use Rattle.pq_base.specs.ClassOne.{left_count, class_one_definitions}
-use Rattle.fp_rows.specs.Rows.{IsRow, add_scaled}
+use Rattle.fp_rows.specs.Rows.{IsRow, add_scaled, negative_row}
 use Rattle.class_one.specs.ExponentRows.{sums_mod}
 
 -- the members of a list whose flags are false
@@ -18,11 +19,6 @@ left_of [] xs = []
 left_of (b ∷ flags) [] = []
 left_of (true ∷ flags) (x ∷ xs) = left_of flags xs
 left_of (false ∷ flags) (x ∷ xs) = x ∷ left_of flags xs
-
--- minus a row
-abbrev pub negative_row : ℕ → List ℕ → List ℕ
-negative_row p [] = []
-negative_row p (x ∷ xs) = ((p - x) % p) ∷ negative_row p xs
 
 -- the image of a generator, by whether it is a pivot: minus the entries of its row at the generators that are left, or,
 -- where it is left itself, that generator alone
@@ -77,7 +73,7 @@ pub record IsRelatorBasis (L : LPresentation) (p : ℕ) (pivots : List Bool) (ro
 
 abbrev pub FirstClassAnswerIsLargest : Type 0
 FirstClassAnswerIsLargest = (L : LPresentation) (p : ℕ) (pivots : List Bool) (rows : List (List ℕ)) → IsLPresentation L
-    → 1 ≤ length L.names → length L.names ≤ 32 → 2 ≤ p → IsRelatorBasis L p pivots rows
+    → 1 ≤ length L.names → length L.names ≤ max_names → 2 ≤ p → IsRelatorBasis L p pivots rows
     → IsLargest L p 1 (first_class_answer p L.names pivots rows)
 
 abbrev pub FirstClassAnswerIsCanonical : Type 0

@@ -1,6 +1,7 @@
 //! Answers of class 1, from their parts.
 
 ghost use Rattle.std.specs.Prelude.{◌≡◌, ◌≤◌, [], IfOk, length};
+ghost use Rattle.pq_base.specs.Limits.{max_names};
 ghost use Rattle.pq_base.specs.Prime.{prime_value};
 ghost use Rattle.pq_base.specs.Answer.{IsAnswer};
 ghost use Rattle.pq_base.specs.Largest.{IsLargest};
@@ -38,7 +39,7 @@ fn answer_of_images(
     pivots: &[bool],
     images: Vec<Vec<Syllable>>,
 ) -> Result<Answer, NoMemory>
-    requires limit { length pivots.now ≤ 32 }
+    requires limit { length pivots.now ≤ max_names }
     requires images { AreImages (prime_value prime) (left_count pivots.now) (words_of images.items) }
     requires answer { IsAnswer (answer_with (prime_value prime) names.now pivots.now (words_of images.items)) }
     ensures { IfOk result (λ a. a ≡ answer_with (prime_value prime) names.now pivots.now (words_of images.items)) }

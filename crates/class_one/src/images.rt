@@ -1,11 +1,13 @@
 //! The definitions and images of the answer of the first class, by which generators are pivots.
 
 ghost use Rattle.std.specs.Prelude.{◌≡◌, ◌≤◌, ◌<◌, ◌-◌, ◌∷◌, ◌++◌, [], IfOk, OnOk, length, map};
+ghost use Rattle.pq_base.specs.Limits.{max_names};
 ghost use Rattle.pq_base.specs.ClassOne.{left_count, class_one_definitions};
+ghost use Rattle.fp_rows.specs.Rows.{negative_row};
 ghost use Rattle.pc_presentation.specs.Definition.{definition_of};
 ghost use Rattle.pc_presentation.specs.Syllable.{syllable, syllables_of};
 ghost use Rattle.pc_presentation.specs.Parts.{words_of};
-ghost use Rattle.class_one.specs.FirstClass.{left_of, negative_row, first_class_image};
+ghost use Rattle.class_one.specs.FirstClass.{left_of, first_class_image};
 ghost use Rattle.class_one.specs.BasisOfSums.{pivot_flags, pivot_rows};
 ghost use Rattle.class_one.specs.Parts.{image_words_of};
 
@@ -17,7 +19,7 @@ use std::alloc::Global;
 
 /// How many generators are no pivots.
 pub(crate) fn left_count(pivots: &[bool]) -> usize
-    requires { length pivots.now ≤ 32 }
+    requires { length pivots.now ≤ max_names }
     ensures { result ≡ left_count pivots.now }
 {
     let mut count = 0;
@@ -31,7 +33,7 @@ pub(crate) fn left_count(pivots: &[bool]) -> usize
 
 /// The definitions of the generators: the images that are no pivots, in their order.
 pub(crate) fn definitions(alloc: Global, pivots: &[bool]) -> Result<Vec<Definition>, NoMemory>
-    requires { length pivots.now ≤ 32 }
+    requires { length pivots.now ≤ max_names }
     ensures { IfOk result (λ v. map definition_of v.items ≡ class_one_definitions 1 pivots.now) }
 {
     let mut definitions = Vec::new(alloc);
@@ -49,7 +51,7 @@ pub(crate) fn pivot_image(
     pivots: &[bool],
     row: &Row,
 ) -> Result<Vec<Syllable>, NoMemory>
-    requires limit { length pivots.now ≤ 32 }
+    requires limit { length pivots.now ≤ max_names }
     requires width { length row.now.entries ≡ length pivots.now }
     ensures { IfOk result (λ v. v.items ≡ syllables_of 0 (negative_row row.now.prime (left_of pivots.now row.now.entries))) }
 {
@@ -109,7 +111,7 @@ pub(crate) fn images(
     pivots: &[bool],
     basis: &Basis,
 ) -> Result<Vec<Vec<Syllable>>, NoMemory>
-    requires limit { length pivots.now ≤ 32 }
+    requires limit { length pivots.now ≤ max_names }
     requires pivots { pivots.now ≡ pivot_flags basis.now.width basis.now.rows }
     ensures { IfOk result (λ v. words_of v.items ≡ image_words_of basis.now.prime pivots.now (pivot_rows basis.now.width basis.now.rows) (length pivots.now)) }
 {
@@ -122,7 +124,7 @@ pub(crate) fn images(
 
 /// The image of the generator at a place, counted from 0.
 fn image(alloc: Global, pivots: &[bool], basis: &Basis, i: usize) -> Result<Vec<Syllable>, NoMemory>
-    requires limit { length pivots.now ≤ 32 }
+    requires limit { length pivots.now ≤ max_names }
     requires pivots { pivots.now ≡ pivot_flags basis.now.width basis.now.rows }
     requires place { i < length pivots.now }
     ensures { IfOk result (λ v. v.items ≡ syllables_of 0 (first_class_image basis.now.prime pivots.now (pivot_rows basis.now.width basis.now.rows) i)) }

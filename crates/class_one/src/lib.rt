@@ -7,8 +7,6 @@ mod basis;
 pub mod exponents;
 mod images;
 pub mod laws;
-#[cfg(test)]
-mod tests;
 
 pub use answer::answer_of_class_one;
 pub use exponents::exponent_sums;

@@ -1,14 +1,13 @@
 //! The groups of unitriangular matrices: a generator for each place above the diagonal.
 
 ghost use Rattle.std.specs.Prelude.{◌≤◌, ◌<◌, IfOk, OnOk, length};
+ghost use Rattle.pq_base.specs.Limits.{max_rank};
 
 use crate::Failure;
 use pc_presentation::{Pcp, PcpBuilder, PcpRefusal, Relation, Syllable};
+use pq_base::limits::RANK;
 use pq_base::{NoMemory, Prime};
 use std::alloc::Global;
-
-/// As many generators as a presentation has at most.
-const LIMIT: usize = 100;
 
 /// A place of a matrix. Rows and columns count from 0.
 #[derive(Clone, Copy, Debug, PartialEq, Eq)]
@@ -28,7 +27,7 @@ pub fn unitriangular(alloc: Global, size: u16, prime: Prime) -> Result<Pcp, Fail
 
 /// The places above the diagonal, ordered by diagonals.
 fn places(alloc: Global, size: u16) -> Result<Vec<Place>, Failure>
-    ensures { IfOk result (λ v. length v.items ≤ 100) }
+    ensures { IfOk result (λ v. length v.items ≤ max_rank) }
 {
     let mut places = Vec::new(alloc);
     for diagonal in 1..size {
@@ -39,11 +38,11 @@ fn places(alloc: Global, size: u16) -> Result<Vec<Place>, Failure>
 
 fn add_diagonal(places: &mut Vec<Place>, size: u16, diagonal: u16) -> Result<(), Failure>
     requires diagonal { diagonal < size }
-    requires limit { length places.old.items ≤ 100 }
-    ensures { OnOk result (length places.new.items ≤ 100) }
+    requires limit { length places.old.items ≤ max_rank }
+    ensures { OnOk result (length places.new.items ≤ max_rank) }
 {
     for row in 0..size - diagonal {
-        if places.len() >= LIMIT {
+        if places.len() >= RANK {
             return Err(Failure::Words);
         }
         let column = row + diagonal;
@@ -53,7 +52,7 @@ fn add_diagonal(places: &mut Vec<Place>, size: u16, diagonal: u16) -> Result<(),
 }
 
 fn presentation(alloc: Global, prime: Prime, places: &[Place]) -> Result<Pcp, PcpRefusal>
-    requires { length places.now ≤ 100 }
+    requires { length places.now ≤ max_rank }
 {
     let weights = vec![in alloc; 1; places.len()].map_err(NoMemory::from)?;
     let mut builder = PcpBuilder::new(alloc, prime, weights.as_slice(), 0)?;
@@ -72,7 +71,7 @@ fn add_commutators(
 ) -> Result<(), PcpRefusal>
     requires from_one { 1 ≤ j }
     requires in_range { j ≤ length places.now }
-    requires limit { length places.now ≤ 100 }
+    requires limit { length places.now ≤ max_rank }
 {
     for i in 1..j {
         if let Some(s) = commutator(prime, places, places[j - 1], places[i - 1]) {
@@ -84,7 +83,7 @@ fn add_commutators(
 
 /// The commutator of the generators of two places, or none where it is empty.
 fn commutator(prime: Prime, places: &[Place], later: Place, earlier: Place) -> Option<Syllable>
-    requires { length places.now ≤ 100 }
+    requires { length places.now ≤ max_rank }
 {
     let (row, column, exponent) = if later.column == earlier.row {
         (later.row, earlier.column, 1)
@@ -101,7 +100,7 @@ fn commutator(prime: Prime, places: &[Place], later: Place, earlier: Place) -> O
 
 /// The number of a place in a list, counted from 1.
 fn number_of(places: &[Place], place: Place) -> Option<u16>
-    requires { length places.now ≤ 100 }
+    requires { length places.now ≤ max_rank }
 {
     let found = places.iter().position(|other| *other == place)?;
     Some(found as u16 + 1)

@@ -14,6 +14,3 @@ pub use standard::{StdSink, StdSource};
 pub use streams::{Failed, Sink, Source};
 pub use sure::{SureSink, SureSource};
 pub use whole::{InputRefusal, read_up_to, write_whole};
-
-#[cfg(test)]
-mod tests;

@@ -1,17 +1,16 @@
 -- One list of words spells at most one command, so what kind of command words ask for is one thing.
-use Rattle.std.proofs.Common.{◌≡◌, ◌<◌, ◌≤◌, ◌^◌, ℕ, List, [], get_or, length, ◌+◌, ◌*◌, ◌⊎◌, inl, inr, refl, sym, ap, ◌∙◌, subst, decimal, arith}
-use native.Mathlib.Nat.{eq-or-lt_of_le}
+use Rattle.std.proofs.Common.{◌≡◌, ◌<◌, ◌≤◌, ◌^◌, ℕ, List, [], get_or, length, ◌+◌, ◌*◌, refl, sym, ap, ◌∙◌, subst, decimal, Some, arith}
 use Rattle.std.proofs.lemmas.Fmt.{decimal_injective}
 use Rattle.pq_base.specs.declared.prime.Prime.{Prime}
 use Rattle.pq_base.specs.declared.prime.Prime.TheVariants.{P2, P3, P5, P7}
 use Rattle.pq_base.specs.Prime.{prime_value}
 use Rattle.pq_run.specs.declared.command.Command.{Command}
 use Rattle.pq_run.specs.declared.command.Command.TheVariants.{Quotient, Json, Certify, Check, Sample}
-use Rattle.pq_run.specs.declared.form.Form.{Form}
-use Rattle.pq_run.specs.declared.form.Form.TheVariants as form
-use Rattle.pq_run.specs.Forms.{first_class_command}
-use Rattle.pq_run.specs.Command.{command_words, CommandWords, IsClass, IsInRange}
-use Rattle.pq_run.specs.Causes.{Ask, IsUnbuilt, IsHigher, IsFirstClass, AskUnbuiltCommand, AskHigherClass, AskFirstClass}
+use Rattle.pq_run.specs.declared.input.Input.{Input}
+use Rattle.pq_run.specs.declared.input.Input.TheVariants.{Presentation}
+use Rattle.pq_run.specs.Command.{command_words, CommandWords, AreCommandWords, IsInRange, Asks}
+use Rattle.pq_run.specs.Input.{IsAbove}
+use Rattle.pq_run.specs.Built.{IsBuilt, IsUnbuilt, HasUnbuiltClass, IsTooLong, IsGiven}
 
 -- word number i, counted from 0
 abbrev word : ℕ → List (List ℕ) → List ℕ
@@ -88,57 +87,42 @@ command_words-injective (Sample n) (Sample m) r s e = ap Sample (decimal_injecti
 pub one_command : (words : List (List ℕ)) (c d : Command) → CommandWords words c → CommandWords words d → c ≡ d
 one_command words c d x y = command_words-injective c d x.range y.range (sym x.spelled ∙ y.spelled)
 
-unbuilt-not_first : (c : Command) → IsUnbuilt c → IsFirstClass c → ⊥
-unbuilt-not_first (Quotient p c) u f = u
-unbuilt-not_first (Json p c) u f = u
-unbuilt-not_first (Certify p c) u f = f
-unbuilt-not_first Check u f = f
-unbuilt-not_first (Sample n) u f = f
+pub Asks-words : (K : Command → Type 0) (words : List (List ℕ)) → Asks K words → AreCommandWords words
+Asks-words K words a = (a.0, a.1)
 
-higher-not_first : (c : Command) → IsHigher c → IsFirstClass c → ⊥
-higher-not_first (Quotient p c) u f = omega arith
-higher-not_first (Json p c) u f = omega arith
-higher-not_first (Certify p c) u f = f
-higher-not_first Check u f = f
-higher-not_first (Sample n) u f = f
+pub Asks-weaker : (K M : Command → Type 0) (words : List (List ℕ)) → ((c : Command) → K c → M c) → Asks K words → Asks M words
+Asks-weaker K M words gives a = (a.0, a.1, gives a.0 a.2)
 
-unbuilt-not_higher : (c : Command) → IsUnbuilt c → IsHigher c → ⊥
-unbuilt-not_higher (Quotient p c) u h = u
-unbuilt-not_higher (Json p c) u h = u
-unbuilt-not_higher (Certify p c) u h = h
-unbuilt-not_higher Check u h = h
-unbuilt-not_higher (Sample n) u h = h
+-- words that spell a command of this kind, which is told by its parts
+pub Asks-same : (K : Command → Type 0) (words : List (List ℕ)) (c d : Command) → CommandWords words d → d ≡ c → K c → Asks K words
+Asks-same K words c d spelled same is = (c, subst (CommandWords words) same spelled, is)
 
 -- words that ask for two kinds of command ask for one command of both kinds
-asked_twice : (K M : Command → Type 0) (words : List (List ℕ)) → ((c : Command) → K c → M c → ⊥) → Ask K words → Ask M words → ⊥
-asked_twice K M words apart a b = apart b.0 (subst K (one_command words a.0 b.0 a.1 b.1) a.2) b.2
+pub Asks-apart : (K M : Command → Type 0) (words : List (List ℕ)) → ((c : Command) → K c → M c → ⊥) → Asks K words → Asks M words → ⊥
+Asks-apart K M words apart a b = apart b.0 (subst K (one_command words a.0 b.0 a.1 b.1) a.2) b.2
 
-pub unbuilt_command-not_first : (words : List (List ℕ)) → AskUnbuiltCommand words → AskFirstClass words → ⊥
-unbuilt_command-not_first words a b = asked_twice IsUnbuilt IsFirstClass words unbuilt-not_first a b
+pub unbuilt-not_built : (c : Command) → IsUnbuilt c → IsBuilt c → ⊥
+unbuilt-not_built (Quotient p c) u b = u
+unbuilt-not_built (Json p c) u b = u
+unbuilt-not_built (Certify p c) u b = b
+unbuilt-not_built Check u b = b
+unbuilt-not_built (Sample n) u b = b
 
-pub higher_class-not_first : (words : List (List ℕ)) → AskHigherClass words → AskFirstClass words → ⊥
-higher_class-not_first words a b = asked_twice IsHigher IsFirstClass words higher-not_first a b
+pub unbuilt_class-not_built : (c : Command) → HasUnbuiltClass c → IsBuilt c → ⊥
+unbuilt_class-not_built (Quotient p c) u b = u b
+unbuilt_class-not_built (Json p c) u b = u b
+unbuilt_class-not_built (Certify p c) u b = u
+unbuilt_class-not_built Check u b = u
+unbuilt_class-not_built (Sample n) u b = u
 
-pub unbuilt_command-not_higher : (words : List (List ℕ)) → AskUnbuiltCommand words → AskHigherClass words → ⊥
-unbuilt_command-not_higher words a b = asked_twice IsUnbuilt IsHigher words unbuilt-not_higher a b
+-- the length of an input is within its limit or not
+pub too_long-not_given : (bytes : List ℕ) (c : Command) → IsTooLong bytes c → IsGiven bytes c → ⊥
+too_long-not_given bytes c long given =
+    let same : Some long.0 ≡ Some Presentation = sym long.1.1 ∙ given.0.1 in
+    beyond long.0 (Some-injective long.0 Presentation same) long.2
+  where
+    Some-injective : (x y : Input) → Some x ≡ Some y → x ≡ y
+    Some-injective x y e = cc
 
--- a class other than 1 that can be asked for
-above_one : (c : ℕ) → IsClass c → (c ≡ 1 → ⊥) → 1 < c
-above_one c is other = elim (eq-or-lt_of_le is.0) [ inl e ↦ absurd (other (sym e)) | inr h ↦ h ]
-
-pub higher_class : (words : List (List ℕ)) (d : Command) (p : Prime) (c : ℕ) → CommandWords words d → (d ≡ Quotient p c) ⊎ (d ≡ Json p c) → (c ≡ 1 → ⊥)
-    → AskHigherClass words
-higher_class words d p c spelled (inl same) other =
-    let here = subst (CommandWords words) same spelled in
-    (Quotient p c, here, above_one c here.range other)
-higher_class words d p c spelled (inr same) other =
-    let here = subst (CommandWords words) same spelled in
-    (Json p c, here, above_one c here.range other)
-
-pub unbuilt_command : (words : List (List ℕ)) (d c : Command) → CommandWords words d → d ≡ c → IsUnbuilt c → AskUnbuiltCommand words
-unbuilt_command words d c spelled same unbuilt = (c, subst (CommandWords words) same spelled, unbuilt)
-
--- the words of a command that asks for an answer of class 1
-pub ask_first_class : (words : List (List ℕ)) (form : Form) (p : Prime) → CommandWords words (first_class_command form p) → AskFirstClass words
-ask_first_class words form.Text p spelled = (Quotient p 1, spelled, refl)
-ask_first_class words form.Json p spelled = (Json p 1, spelled, refl)
+    beyond : (input : Input) → input ≡ Presentation → IsAbove input bytes → ⊥
+    beyond input e above = let here : IsAbove Presentation bytes = subst (λ (x : Input). IsAbove x bytes) e above in omega (arith, given.1)

@@ -1,6 +1,9 @@
 pub mod Numbers
 pub mod Commands
+pub mod QuotientCommands
+pub mod Outputs
 pub mod WordsEnds
-pub mod FirstClassEnds
+pub mod InputEnds
 pub mod RefusalEnds
-pub mod InputCauses
+pub mod Causes
+pub mod TooLongLines

@@ -1,19 +1,41 @@
 -- What the words alone decide of how a command ends: whether it ends as bad words, and that a command and a class that
 -- aren't built are refused.
-use Rattle.std.proofs.Common.{◌≡◌, ◌↔◌, ℕ, List, Option, inl, inr, refl, sym, ◌∙◌}
+use Rattle.std.proofs.Common.{◌≡◌, ◌↔◌, ℕ, List, refl, sym, ◌∙◌}
 use Rattle.pq_base.specs.declared.status.Status.{Status}
 use Rattle.pq_base.specs.declared.status.Status.TheVariants as status
-use Rattle.pq_run.specs.declared.command.Command.{Command}
+use Rattle.pq_run.specs.declared.input.Input.TheVariants.{Presentation}
 use Rattle.pq_run.specs.declared.refusal.Refusal.{Refusal}
 use Rattle.pq_run.specs.declared.refusal.Refusal.TheVariants.{Words, UnbuiltCommand, UnbuiltClass, UnbuiltEndos, ReadFault, InputTooLong, Text, NoMemory}
-use Rattle.pq_run.specs.Command.{AreCommandWords}
+use Rattle.pq_run.specs.Command.{AreCommandWords, Asks}
 use Rattle.pq_run.specs.Refusals.{refusal_status}
-use Rattle.pq_run.specs.Causes.{Ask, IsFirstClass, IsUnbuilt, IsHigher, AskUnbuiltCommand, AskHigherClass, IsCause}
-use Rattle.pq_run.specs.Ends.{Ends, Streams}
-use Rattle.pq_run.proofs.Commands.{unbuilt_command-not_first, higher_class-not_first}
+use Rattle.pq_run.specs.Built.{IsBuilt, IsUnbuilt, HasUnbuiltClass, ReadsInput}
+use Rattle.pq_run.specs.Streams.{Reading, Writing}
+use Rattle.pq_run.specs.Cause.{IsCause}
+use Rattle.pq_run.specs.Ends.{Ends}
+use Rattle.pq_run.specs.Ends.Ends.{done, cut, refused}
+use Rattle.pq_run.proofs.Commands.{Asks-words, Asks-apart, unbuilt-not_built, unbuilt_class-not_built}
 
-asked-words : (kind : Command → Type 0) (words : List (List ℕ)) → Ask kind words → AreCommandWords words
-asked-words kind words a = (a.0, a.1)
+-- a refusal is for words that are no command, for a command or a class that isn't built, or for a command that is built
+data Kind (words : List (List ℕ)) (refusal : Refusal) : Type 0 where
+  no_command : refusal_status refusal ≡ status.BadWords → ¬ AreCommandWords words → Kind words refusal
+  unbuilt : refusal_status refusal ≡ status.NotBuilt → AreCommandWords words → Kind words refusal
+  built : ¬ (refusal_status refusal ≡ status.BadWords) → Asks IsBuilt words → Kind words refusal
+
+asks_built : (words : List (List ℕ)) → Asks (ReadsInput Presentation) words → Asks IsBuilt words
+asks_built words a = (a.0, a.1, a.2.0)
+
+kind_of_cause : (words : List (List ℕ)) (r : Reading) (refusal : Refusal) → IsCause words r refusal → Kind words refusal
+kind_of_cause words r Words cause = no_command refl cause
+kind_of_cause words r UnbuiltCommand cause = unbuilt refl (cause.0, cause.1)
+kind_of_cause words r UnbuiltClass cause = unbuilt refl (cause.0, cause.1)
+kind_of_cause words r UnbuiltEndos cause = built (λ e. cc) (asks_built words cause.0)
+kind_of_cause words r ReadFault cause = built (λ e. cc) (cause.0.0, cause.0.1, cause.0.2.1.0)
+kind_of_cause words r (InputTooLong input) cause = built (λ e. cc) (cause.0.0, cause.0.1, cause.0.2.0)
+kind_of_cause words r (Text fault) cause = built (λ e. cc) (asks_built words cause.0)
+kind_of_cause words r NoMemory cause = built (λ e. cc) cause
+
+unbuilt_or_bad : status.NotBuilt ≡ status.BadWords → ⊥
+unbuilt_or_bad e = cc
 
 done_or_bad : status.Done ≡ status.BadWords → ⊥
 done_or_bad e = cc
@@ -21,63 +43,38 @@ done_or_bad e = cc
 cut_or_bad : status.WriteFault ≡ status.BadWords → ⊥
 cut_or_bad e = cc
 
--- which refusals come for words that are no command, for a command that isn't built, and for a higher class
-bad_words_cause : (words : List (List ℕ)) (left : Option (List ℕ)) (a b : ℕ) (r : Refusal) → IsCause words left a b r → refusal_status r ≡ status.BadWords → ¬ AreCommandWords words
-bad_words_cause words left a b Words cause e = cause
-bad_words_cause words left a b UnbuiltCommand cause e = cc
-bad_words_cause words left a b UnbuiltClass cause e = cc
-bad_words_cause words left a b UnbuiltEndos cause e = cc
-bad_words_cause words left a b ReadFault cause e = cc
-bad_words_cause words left a b InputTooLong cause e = cc
-bad_words_cause words left a b (Text fault) cause e = cc
-bad_words_cause words left a b NoMemory cause e = cc
+bad_words-refused : (words : List (List ℕ)) (refusal : Refusal) → Kind words refusal → (refusal_status refusal ≡ status.BadWords) ↔ (¬ AreCommandWords words)
+bad_words-refused words refusal (no_command is bad) = ((λ e. bad), (λ _. is))
+bad_words-refused words refusal (unbuilt is good) = ((λ e. absurd (unbuilt_or_bad (sym is ∙ e))), (λ bad. absurd (bad good)))
+bad_words-refused words refusal (built other ask) = ((λ e. absurd (other e)), (λ bad. absurd (bad (Asks-words IsBuilt words ask))))
 
-bad_words_status : (words : List (List ℕ)) (left : Option (List ℕ)) (a b : ℕ) (r : Refusal) → IsCause words left a b r → ¬ AreCommandWords words → refusal_status r ≡ status.BadWords
-bad_words_status words left a b Words cause bad = refl
-bad_words_status words left a b UnbuiltCommand cause bad = absurd (bad (asked-words IsUnbuilt words cause))
-bad_words_status words left a b UnbuiltClass cause bad = absurd (bad (asked-words IsHigher words cause))
-bad_words_status words left a b UnbuiltEndos cause bad = absurd (bad (asked-words IsFirstClass words cause.0))
-bad_words_status words left a b ReadFault cause bad = absurd (bad (asked-words IsFirstClass words cause.0))
-bad_words_status words left a b InputTooLong cause bad = absurd (bad (asked-words IsFirstClass words cause.0))
-bad_words_status words left a b (Text fault) cause bad = absurd (bad (asked-words IsFirstClass words cause.0))
-bad_words_status words left a b NoMemory cause bad = absurd (bad (asked-words IsFirstClass words cause.0))
+pub bad_words-ends : (words : List (List ℕ)) (r : Reading) (w : Writing) (end : Status) → Ends words r w end → (end ≡ status.BadWords) ↔ (¬ AreCommandWords words)
+bad_words-ends words r w end (done is came by) =
+    ((λ e. absurd (done_or_bad (sym is ∙ e))), (λ bad. absurd (bad (Asks-words IsBuilt words came.built))))
+bad_words-ends words r w end (cut is came by) =
+    ((λ e. absurd (cut_or_bad (sym is ∙ e))), (λ bad. absurd (bad (Asks-words IsBuilt words came.built))))
+bad_words-ends words r w end (refused by) =
+    let told = bad_words-refused words by.refusal (kind_of_cause words r by.refusal by.cause) in
+    ((λ e. told.0 (sym by.is ∙ e)), (λ bad. by.is ∙ told.1 bad))
 
-command_status : (words : List (List ℕ)) (left : Option (List ℕ)) (a b : ℕ) (r : Refusal) → IsCause words left a b r → AskUnbuiltCommand words → refusal_status r ≡ status.NotBuilt
-command_status words left a b Words cause ask = absurd (cause (asked-words IsUnbuilt words ask))
-command_status words left a b UnbuiltCommand cause ask = refl
-command_status words left a b UnbuiltClass cause ask = refl
-command_status words left a b UnbuiltEndos cause ask = refl
-command_status words left a b ReadFault cause ask = absurd (unbuilt_command-not_first words ask cause.0)
-command_status words left a b InputTooLong cause ask = absurd (unbuilt_command-not_first words ask cause.0)
-command_status words left a b (Text fault) cause ask = absurd (unbuilt_command-not_first words ask cause.0)
-command_status words left a b NoMemory cause ask = absurd (unbuilt_command-not_first words ask cause.0)
+-- words that ask for what isn't built
+unbuilt-refused : (words : List (List ℕ)) (refusal : Refusal) → AreCommandWords words → ¬ Asks IsBuilt words → Kind words refusal
+    → refusal_status refusal ≡ status.NotBuilt
+unbuilt-refused words refusal good not_built (no_command is bad) = absurd (bad good)
+unbuilt-refused words refusal good not_built (unbuilt is _) = is
+unbuilt-refused words refusal good not_built (built other ask) = absurd (not_built ask)
 
-class_status : (words : List (List ℕ)) (left : Option (List ℕ)) (a b : ℕ) (r : Refusal) → IsCause words left a b r → AskHigherClass words → refusal_status r ≡ status.NotBuilt
-class_status words left a b Words cause ask = absurd (cause (asked-words IsHigher words ask))
-class_status words left a b UnbuiltCommand cause ask = refl
-class_status words left a b UnbuiltClass cause ask = refl
-class_status words left a b UnbuiltEndos cause ask = refl
-class_status words left a b ReadFault cause ask = absurd (higher_class-not_first words ask cause.0)
-class_status words left a b InputTooLong cause ask = absurd (higher_class-not_first words ask cause.0)
-class_status words left a b (Text fault) cause ask = absurd (higher_class-not_first words ask cause.0)
-class_status words left a b NoMemory cause ask = absurd (higher_class-not_first words ask cause.0)
+unbuilt-ends : (words : List (List ℕ)) (r : Reading) (w : Writing) (end : Status) → Ends words r w end → AreCommandWords words → ¬ Asks IsBuilt words
+    → end ≡ status.NotBuilt
+unbuilt-ends words r w end (done is came by) good not_built = absurd (not_built came.built)
+unbuilt-ends words r w end (cut is came by) good not_built = absurd (not_built came.built)
+unbuilt-ends words r w end (refused by) good not_built =
+    by.is ∙ unbuilt-refused words by.refusal good not_built (kind_of_cause words r by.refusal by.cause)
 
-pub bad_words-ends : (words : List (List ℕ)) (s : Streams) (end : Status) → Ends words s end → (end ≡ status.BadWords) ↔ (¬ AreCommandWords words)
-bad_words-ends words s end (inl done) =
-    ((λ e. absurd (done_or_bad (sym done.is ∙ e))), (λ bad. absurd (bad (asked-words IsFirstClass words done.asked))))
-bad_words-ends words s end (inr (inl cut)) =
-    ((λ e. absurd (cut_or_bad (sym cut.is ∙ e))), (λ bad. absurd (bad (asked-words IsFirstClass words cut.asked))))
-bad_words-ends words s end (inr (inr r)) = (
-  (λ e. bad_words_cause words s.left s.read_before s.read_after r.refusal r.cause (sym r.is ∙ e)),
-  (λ bad. r.is ∙ bad_words_status words s.left s.read_before s.read_after r.refusal r.cause bad),
-)
+pub command-ends : (words : List (List ℕ)) (r : Reading) (w : Writing) (end : Status) → Ends words r w end → Asks IsUnbuilt words → end ≡ status.NotBuilt
+command-ends words r w end ends ask =
+    unbuilt-ends words r w end ends (Asks-words IsUnbuilt words ask) (λ b. Asks-apart IsUnbuilt IsBuilt words unbuilt-not_built ask b)
 
-pub command-ends : (words : List (List ℕ)) (s : Streams) (end : Status) → Ends words s end → AskUnbuiltCommand words → end ≡ status.NotBuilt
-command-ends words s end (inl done) ask = absurd (unbuilt_command-not_first words ask done.asked)
-command-ends words s end (inr (inl cut)) ask = absurd (unbuilt_command-not_first words ask cut.asked)
-command-ends words s end (inr (inr r)) ask = r.is ∙ command_status words s.left s.read_before s.read_after r.refusal r.cause ask
-
-pub class-ends : (words : List (List ℕ)) (s : Streams) (end : Status) → Ends words s end → AskHigherClass words → end ≡ status.NotBuilt
-class-ends words s end (inl done) ask = absurd (higher_class-not_first words ask done.asked)
-class-ends words s end (inr (inl cut)) ask = absurd (higher_class-not_first words ask cut.asked)
-class-ends words s end (inr (inr r)) ask = r.is ∙ class_status words s.left s.read_before s.read_after r.refusal r.cause ask
+pub class-ends : (words : List (List ℕ)) (r : Reading) (w : Writing) (end : Status) → Ends words r w end → Asks HasUnbuiltClass words → end ≡ status.NotBuilt
+class-ends words r w end ends ask =
+    unbuilt-ends words r w end ends (Asks-words HasUnbuiltClass words ask) (λ b. Asks-apart HasUnbuiltClass IsBuilt words unbuilt_class-not_built ask b)

@@ -32,3 +32,7 @@ pub record CommandWords (words : List (List ℕ)) (command : Command) : Type 0 w
 -- the words are in the table
 abbrev pub AreCommandWords : List (List ℕ) → Type 0
 AreCommandWords words = (command : Command) × CommandWords words command
+
+-- the words are those of a command of this kind
+abbrev pub Asks : (Command → Type 0) → List (List ℕ) → Type 0
+Asks kind words = (command : Command) × CommandWords words command × kind command

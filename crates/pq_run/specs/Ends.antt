@@ -1,35 +1,70 @@
 -- How a command ends: with its output, with a first part of it because the sink failed, or refused.
-use Rattle.std.specs.Prelude.{◌≡◌, ◌⊎◌, ℕ, List, Option, IfSome}
+-- From: this project's own commands.
+use Rattle.std.specs.Prelude.{◌≡◌, ◌⊎◌, ℕ, List, IfSome}
 use Rattle.pq_base.specs.declared.status.Status.{Status}
-use Rattle.pq_base.specs.declared.status.Status.TheVariants.{Done, WriteFault}
+use Rattle.pq_base.specs.declared.status.Status.TheVariants as status
 use Rattle.pq_io.specs.Faults.{Rose}
-use Rattle.pq_run.specs.Inputs.{IsBuiltInput}
-use Rattle.pq_run.specs.Output.{WritesOutput, WritesPart}
-use Rattle.pq_run.specs.Causes.{AskFirstClass, Refuses}
+use Rattle.pq_io.specs.Writing.{Gains, GainsProperPrefix}
+use Rattle.lpres_reader.specs.declared.fault.TextFault.{TextFault}
+use Rattle.pq_run.specs.declared.command.Command.{Command}
+use Rattle.pq_run.specs.declared.refusal.Refusal.{Refusal}
+use Rattle.pq_run.specs.declared.refusal.Refusal.TheVariants.{Text, NoMemory}
+use Rattle.pq_run.specs.Command.{CommandWords, Asks}
+use Rattle.pq_run.specs.Input.{input_of, read_of, IsReadToEnd}
+use Rattle.pq_run.specs.Output.{Output}
+use Rattle.pq_run.specs.Built.{IsBuilt, IsAnswered}
+use Rattle.pq_run.specs.Refusals.{refusal_line, refusal_status}
+use Rattle.pq_run.specs.Cause.{IsCause}
+use Rattle.pq_run.specs.Streams.{Reading, Writing}
 
--- what a source and a sink tell before and after a command: bytes, and counts of faults
-pub record Streams : Type 0 where
-  pub left : Option (List ℕ)
-  pub rest : Option (List ℕ)
-  pub read_before : ℕ
-  pub read_after : ℕ
-  pub taken : Option (List ℕ)
-  pub then : Option (List ℕ)
-  pub write_before : ℕ
-  pub write_after : ℕ
+-- an output for these bytes was written as far as a condition on it says
+abbrev pub HasWritten : List (List ℕ) → List ℕ → (List ℕ → Type 0) → Type 0
+HasWritten words bytes P = (output : List ℕ) × Output words bytes output × P output
 
-pub record EndsDone (words : List (List ℕ)) (s : Streams) (status : Status) : Type 0 where
-  pub is : status ≡ Done
-  pub asked : AskFirstClass words
-  pub built : IfSome s.left IsBuiltInput
-  pub output : WritesOutput words s.left s.rest s.taken s.then
+-- a command has read its input to its end, and has written one output, and nothing else
+pub record IsDone (words : List (List ℕ)) (r : Reading) (w : Writing) : Type 0 where
+  pub command : Command
+  pub spelled : CommandWords words command
+  pub read : IsReadToEnd (input_of command) r.left r.rest
+  pub written : IfSome (read_of (input_of command) r.left) (λ bytes. HasWritten words bytes (Gains w.taken w.then))
 
-pub record EndsCut (words : List (List ℕ)) (s : Streams) (status : Status) : Type 0 where
-  pub is : status ≡ WriteFault
-  pub asked : AskFirstClass words
-  pub fault : Rose s.write_before s.write_after
-  pub built : IfSome s.left IsBuiltInput
-  pub output : WritesPart words s.left s.rest s.taken s.then
+-- the same, but the sink failed, and a last part of the output wasn't written
+pub record IsCut (words : List (List ℕ)) (r : Reading) (w : Writing) : Type 0 where
+  pub command : Command
+  pub spelled : CommandWords words command
+  pub read : IsReadToEnd (input_of command) r.left r.rest
+  pub written : IfSome (read_of (input_of command) r.left) (λ bytes. HasWritten words bytes (GainsProperPrefix w.taken w.then))
+  pub fault : Rose w.before w.after
 
-abbrev pub Ends : List (List ℕ) → Streams → Status → Type 0
-Ends words s status = EndsDone words s status ⊎ (EndsCut words s status ⊎ Refuses words s.left s.read_before s.read_after s.taken s.then s.write_before s.write_after status)
+-- a sink took this line, or a proper prefix of it because it failed
+abbrev pub TakesLine : Writing → List ℕ → Type 0
+TakesLine w line = Gains w.taken w.then line ⊎ (Rose w.before w.after × GainsProperPrefix w.taken w.then line)
+
+-- a command is refused: there is a cause, the status says which, and its line was written
+pub record IsRefused (words : List (List ℕ)) (r : Reading) (w : Writing) (status : Status) : Type 0 where
+  pub refusal : Refusal
+  pub cause : IsCause words r refusal
+  pub is : status ≡ refusal_status refusal
+  pub line : TakesLine w (refusal_line refusal)
+
+-- what the input decides comes, unless a read fails or memory is wanting before
+abbrev pub IsDecided : Status → Status → Type 0
+IsDecided decided end = (end ≡ decided) ⊎ ((end ≡ status.ReadFault) ⊎ (end ≡ status.NoMemory))
+
+-- a command ended as this refusal has it: with its status, and its line was written
+abbrev pub EndsAs : Refusal → Writing → Status → Type 0
+EndsAs refusal w end = (end ≡ refusal_status refusal) × TakesLine w (refusal_line refusal)
+
+-- the same, or memory was wanting for the line of a fault, and this was told in its place
+abbrev pub EndsBy : Refusal → Writing → Status → Type 0
+EndsBy refusal w end = EndsAs refusal w end ⊎ (((fault : TextFault) × (refusal ≡ Text fault)) × EndsAs NoMemory w end)
+
+-- what is known of a command that came to its output: it is built, and what was read is answered
+pub record CameToOutput (words : List (List ℕ)) (r : Reading) : Type 0 where
+  pub built : Asks IsBuilt words
+  pub answered : IfSome r.left (λ bytes. Asks (IsAnswered bytes) words)
+
+pub data Ends (words : List (List ℕ)) (r : Reading) (w : Writing) (end : Status) : Type 0 where
+  done : end ≡ status.Done → CameToOutput words r → IsDone words r w → Ends words r w end
+  cut : end ≡ status.WriteFault → CameToOutput words r → IsCut words r w → Ends words r w end
+  refused : IsRefused words r w end → Ends words r w end

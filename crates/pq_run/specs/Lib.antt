@@ -1,8 +1,11 @@
 pub mod Number
 pub mod Command
-pub mod Forms
-pub mod Inputs
+pub mod Input
+pub mod Form
 pub mod Output
+pub mod Texts
+pub mod Built
 pub mod Refusals
-pub mod Causes
+pub mod Streams
+pub mod Cause
 pub mod Ends

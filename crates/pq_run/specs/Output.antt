@@ -1,6 +1,6 @@
 -- What a command writes for what it reads. A row that isn't built has no case.
 -- From: this project's own commands.
-use Rattle.std.specs.Prelude.{◌≡◌, ℕ, List, [], Option, Some, IfSome}
+use Rattle.std.specs.Prelude.{◌≡◌, ℕ, List}
 use Rattle.pq_base.specs.Prime.{prime_value}
 use Rattle.pq_base.specs.LPresentation.{LPresentation}
 use Rattle.pq_base.specs.Answer.{Answer}
@@ -9,10 +9,10 @@ use Rattle.pq_base.specs.Canonical.{IsCanonical}
 use Rattle.lpres_reader.specs.Reads.{Reads}
 use Rattle.answer_text.specs.AnswerText.{answer_text}
 use Rattle.answer_text.specs.AnswerData.{answer_json}
-use Rattle.pq_io.specs.Writing.{Gains, GainsProperPrefix}
+use Rattle.answer_text.specs.OneText.{IsWritable}
 use Rattle.pq_run.specs.declared.command.Command.{Command}
 use Rattle.pq_run.specs.declared.command.Command.TheVariants.{Quotient, Json, Certify, Check, Sample}
-use Rattle.pq_run.specs.Command.{CommandWords}
+use Rattle.pq_run.specs.Command.{Asks}
 
 -- the bytes read as one presentation, and what is written is one largest quotient of it, the canonical one, in this form
 pub record WritesAnswer (p c : ℕ) (form : Answer → List ℕ) (bytes written : List ℕ) : Type 0 where
@@ -21,6 +21,7 @@ pub record WritesAnswer (p c : ℕ) (form : Answer → List ℕ) (bytes written 
   pub answer : Answer
   pub largest : IsLargest presentation p c answer
   pub canonical : IsCanonical answer
+  pub writable : IsWritable answer
   pub text : written ≡ form answer
 
 abbrev pub OutputOf : Command → List ℕ → List ℕ → Type 0
@@ -30,20 +31,10 @@ OutputOf (Certify p c) bytes written = ⊥
 OutputOf Check bytes written = ⊥
 OutputOf (Sample n) bytes written = ⊥
 
--- the words are those of a command, and this is its output
-pub record Output (words : List (List ℕ)) (bytes written : List ℕ) : Type 0 where
-  pub command : Command
-  pub spelled : CommandWords words command
-  pub output : OutputOf command bytes written
+-- the words are those of a command, and this is an output of it for these bytes
+abbrev pub Output : List (List ℕ) → List ℕ → List ℕ → Type 0
+Output words bytes written = Asks (λ command. OutputOf command bytes written) words
 
--- what was left in the source, where it tells, is read to its end, and meets a condition
-abbrev pub IsReadBy : Option (List ℕ) → Option (List ℕ) → (List ℕ → Type 0) → Type 0
-IsReadBy left rest P = IfSome left (λ bytes. (rest ≡ Some []) × P bytes)
-
--- what was left in the source is read to its end, and its output was added to what the sink has taken
-abbrev pub WritesOutput : List (List ℕ) → Option (List ℕ) → Option (List ℕ) → Option (List ℕ) → Option (List ℕ) → Type 0
-WritesOutput words left rest taken then = IsReadBy left rest (λ bytes. (written : List ℕ) × Output words bytes written × Gains taken then written)
-
--- the same, but for a last part of the output
-abbrev pub WritesPart : List (List ℕ) → Option (List ℕ) → Option (List ℕ) → Option (List ℕ) → Option (List ℕ) → Type 0
-WritesPart words left rest taken then = IsReadBy left rest (λ bytes. (written : List ℕ) × Output words bytes written × GainsProperPrefix taken then written)
+-- what is written as text for given bytes determines the answer
+abbrev pub OneOutputOneAnswer : Type 0
+OneOutputOneAnswer = (p c : ℕ) (bytes written : List ℕ) (x y : WritesAnswer p c answer_text bytes written) → x.answer ≡ y.answer

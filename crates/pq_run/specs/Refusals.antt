@@ -10,10 +10,12 @@ use Rattle.lpres_reader.specs.declared.fault.Which.{Which}
 use Rattle.lpres_reader.specs.declared.fault.Which.TheVariants.{Name, Generators, Fixed, Iterated, Endos, Exponent, Letters, Total}
 use Rattle.lpres_reader.specs.declared.refusal.ReadRefusal.{ReadRefusal}
 use Rattle.lpres_reader.specs.declared.refusal.ReadRefusal.TheVariants as reading
-use Rattle.pq_io.specs.declared.whole.InputRefusal.{InputRefusal}
-use Rattle.pq_io.specs.declared.whole.InputRefusal.TheVariants as input
+use Rattle.pq_run.specs.declared.answer.AnswerRefusal.{AnswerRefusal}
+use Rattle.pq_run.specs.declared.answer.AnswerRefusal.TheVariants as answer
+use Rattle.pq_run.specs.declared.input.Input.{Input}
 use Rattle.pq_run.specs.declared.refusal.Refusal.{Refusal}
 use Rattle.pq_run.specs.declared.refusal.Refusal.TheVariants.{Words, UnbuiltCommand, UnbuiltClass, UnbuiltEndos, ReadFault, InputTooLong, Text, NoMemory}
+use Rattle.pq_run.specs.Input.{byte_limit}
 
 -- what is limited
 abbrev pub limit_text : Which → List ℕ
@@ -38,13 +40,16 @@ kind_text NotAllImages = codes "not all images"
 abbrev pub fault_line : TextFault → List ℕ
 fault_line fault = codes "refused: line " ++ (decimal fault.line ++ (codes ": " ++ (kind_text fault.kind ++ 10 ∷ [])))
 
+abbrev pub too_long_line : Input → List ℕ
+too_long_line input = codes "refused: input above " ++ (decimal (byte_limit input) ++ (codes " bytes" ++ 10 ∷ []))
+
 abbrev pub refusal_line : Refusal → List ℕ
 refusal_line Words = codes "refused: words" ++ 10 ∷ []
 refusal_line UnbuiltCommand = codes "refused: not built: command" ++ 10 ∷ []
 refusal_line UnbuiltClass = codes "refused: not built: class" ++ 10 ∷ []
 refusal_line UnbuiltEndos = codes "refused: not built: endos" ++ 10 ∷ []
 refusal_line ReadFault = codes "refused: read fault" ++ 10 ∷ []
-refusal_line InputTooLong = codes "refused: input above 4194304 bytes" ++ 10 ∷ []
+refusal_line (InputTooLong input) = too_long_line input
 refusal_line (Text fault) = fault_line fault
 refusal_line NoMemory = codes "refused: no memory" ++ 10 ∷ []
 
@@ -54,16 +59,15 @@ refusal_status UnbuiltCommand = status.NotBuilt
 refusal_status UnbuiltClass = status.NotBuilt
 refusal_status UnbuiltEndos = status.NotBuilt
 refusal_status ReadFault = status.ReadFault
-refusal_status InputTooLong = status.InputTooLong
+refusal_status (InputTooLong input) = status.InputTooLong
 refusal_status (Text fault) = status.BadText
 refusal_status NoMemory = status.NoMemory
 
--- why an input that wasn't read to its end, or wasn't read as a presentation, is refused
-abbrev pub refusal_of_input : InputRefusal → Refusal
-refusal_of_input input.Failed = ReadFault
-refusal_of_input input.TooLong = InputTooLong
-refusal_of_input input.NoMemory = NoMemory
-
+-- why an input that wasn't read as a presentation is refused
 abbrev pub refusal_of_reading : ReadRefusal → Refusal
 refusal_of_reading (reading.Text fault) = Text fault
 refusal_of_reading reading.NoMemory = NoMemory
+
+-- why a presentation that has no answer is refused
+abbrev pub refusal_of_answer : AnswerRefusal → Refusal
+refusal_of_answer answer.NoMemory = NoMemory

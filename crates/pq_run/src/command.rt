@@ -1,8 +1,10 @@
 // The commands, and the words that spell them.
-ghost use Rattle.std.specs.Prelude.{◌≡◌, ◌≤◌, ◌∷◌, [], ℕ, IfSome, IfNone, decimal};
+ghost use Rattle.std.specs.Prelude.{◌≡◌, ◌∷◌, [], ℕ, IfSome, IfNone, decimal};
 ghost use Rattle.pq_base.specs.Prime.{prime_value};
 ghost use Rattle.pq_run.specs.Command.{IsClass, CommandWords, AreCommandWords};
+ghost use Rattle.pq_run.specs.Input.{input_of};
 
+use crate::input::Input;
 use crate::number::canonical_number;
 use crate::words::Words;
 use pq_base::Prime;
@@ -21,6 +23,21 @@ pub enum Command {
     Check,
     /// The summary of a numbered sample.
     Sample(u32),
+}
+
+impl Command {
+    /// What the command reads, where it reads anything.
+    pub fn input(self) -> Option<Input>
+        ensures { result ≡ input_of self }
+    {
+        match self {
+            Command::Quotient(..) => Some(Input::Presentation),
+            Command::Json(..) => Some(Input::Presentation),
+            Command::Certify(..) => Some(Input::Presentation),
+            Command::Check => Some(Input::Certificate),
+            Command::Sample(_) => None,
+        }
+    }
 }
 
 /// The greatest number of a sample.

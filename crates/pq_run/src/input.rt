@@ -1,47 +1,51 @@
-// From the bytes of a source to the bytes of the answer of class 1.
-ghost use Rattle.std.specs.Prelude.{◌≡◌, ◌+◌, ◌≤◌, ℕ, IfOk, IfErr, IfSome, Some, drop};
-ghost use Rattle.pq_base.specs.Prime.{prime_value};
-ghost use Rattle.pq_run.specs.Forms.{written_as};
-ghost use Rattle.pq_run.specs.Inputs.{IsShort, IsBuiltInput, HasNoEndos, byte_limit};
-ghost use Rattle.pq_run.specs.Output.{IsReadBy, WritesAnswer};
-ghost use Rattle.pq_run.specs.Causes.{IsInputCause};
+// What a command reads, and how many bytes that may be.
+ghost use Rattle.std.specs.Prelude.{◌≡◌, ◌+◌, ◌≤◌, Some, [], IfOk, IfErr, IfSome};
+ghost use Rattle.pq_run.specs.Input.{byte_limit, IsWithin, IsTaken};
+ghost use Rattle.pq_run.specs.Streams.{reading_of};
+ghost use Rattle.pq_run.specs.Cause.{IsInputCause};
 
-use crate::form::{Form, write_answer};
 use crate::refusal::Refusal;
-use class_one::answer_of_class_one;
-use lpres_reader::read;
-use pq_base::Prime;
-use pq_base::limits::PRESENTATION_BYTES;
-use pq_io::{Source, read_up_to};
+use pq_base::limits::{CERTIFICATE_BYTES, PRESENTATION_BYTES};
+use pq_io::{InputRefusal, Source, read_up_to};
 use std::alloc::Global;
 
-/// Reads a presentation to its end, and gives the bytes of its answer of class 1.
-pub fn answer_of_source<S: Source>(
-    alloc: Global,
-    prime: Prime,
-    form: Form,
-    source: &mut S,
-) -> Result<Vec<u8>, Refusal>
-    ensures ok { IfOk result (λ bytes. IsReadBy (S.left source.old) (S.left source.new) (λ text. IsBuiltInput text × WritesAnswer (prime_value prime) 1 (written_as form) text bytes.items)) }
-    ensures err { IfErr result (IsInputCause (S.left source.old) (S.faults source.old) (S.faults source.new)) }
-    ensures count { S.faults source.old ≤ S.faults source.new }
-    ensures left { IfSome (S.left source.old) (λ told. (n : ℕ) × (n ≤ byte_limit + 1) × (S.left source.new ≡ Some (drop n told))) }
-{
-    let text = read_up_to(alloc, source, PRESENTATION_BYTES)?;
-    answer_of_text(alloc, prime, form, &text)
+/// What a command reads.
+#[derive(Clone, Copy, Debug, PartialEq, Eq)]
+pub enum Input {
+    /// A presentation.
+    Presentation,
+    /// A certificate.
+    Certificate,
 }
 
-/// The bytes of the answer of class 1 of a presentation.
-fn answer_of_text(alloc: Global, prime: Prime, form: Form, text: &[u8]) -> Result<Vec<u8>, Refusal>
-    requires { IsShort text.now }
-    ensures built { IfOk result (λ bytes. HasNoEndos text.now) }
-    ensures ok { IfOk result (λ bytes. WritesAnswer (prime_value prime) 1 (written_as form) text.now bytes.items) }
-    ensures err { IfErr result (IsInputCause (Some text.now) 0 0) }
-{
-    let pres = read(alloc, text)?;
-    if !pres.endos().is_empty() {
-        return Err(Refusal::UnbuiltEndos);
+impl Input {
+    /// The most bytes of it.
+    pub fn byte_limit(self) -> usize
+        ensures { result ≡ byte_limit self }
+    {
+        match self {
+            Input::Presentation => PRESENTATION_BYTES,
+            Input::Certificate => CERTIFICATE_BYTES,
+        }
     }
-    let answer = answer_of_class_one(alloc, &pres, prime)?;
-    Ok(write_answer(alloc, form, &answer)?)
+}
+
+/// Reads an input to its end.
+pub fn read_input<S: Source>(
+    alloc: Global,
+    input: Input,
+    source: &mut S,
+) -> Result<Vec<u8>, Refusal>
+    ensures within { IfOk result (λ bytes. IsWithin input bytes.items) }
+    ensures whole { IfOk result (λ bytes. IfSome (S.left source.old) (λ told. (bytes.items ≡ told) × (S.left source.new ≡ Some []))) }
+    ensures err { IfErr result (IsInputCause input (reading_of S.left S.faults source.old source.new)) }
+    ensures count { S.faults source.old ≤ S.faults source.new }
+    ensures left { IsTaken (byte_limit input + 1) (S.left source.old) (S.left source.new) }
+{
+    match read_up_to(alloc, source, input.byte_limit()) {
+        Ok(bytes) => Ok(bytes),
+        Err(InputRefusal::Failed) => Err(Refusal::ReadFault),
+        Err(InputRefusal::TooLong) => Err(Refusal::InputTooLong(input)),
+        Err(InputRefusal::NoMemory) => Err(Refusal::NoMemory),
+    }
 }

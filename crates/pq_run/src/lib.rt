@@ -3,18 +3,19 @@
 //! it writes the one line that says why the command is refused. Each status has its exact cause.
 #![tactic(auto)]
 
+mod answer;
 mod command;
 mod form;
 mod input;
+pub mod laws;
 mod number;
+mod output;
 mod refusal;
 mod top;
 mod words;
 
 pub use command::{Command, parse_words};
+pub use input::Input;
 pub use refusal::Refusal;
 pub use top::run;
 pub use words::Words;
-
-#[cfg(test)]
-mod tests;

@@ -1,13 +1,16 @@
 // Why a command is refused, and the line that says so.
 ghost use Rattle.std.specs.Prelude.{◌≡◌, ◌≤◌, IfOk, IsNone, string_bytes};
 ghost use Rattle.lpres_reader.specs.declared.fault.Kind.TheVariants.{Limit as PastLimit};
-ghost use Rattle.pq_run.specs.Refusals.{refusal_of_input, refusal_of_reading, fault_line, kind_text, limit_text};
-ghost use Rattle.pq_run.specs.Causes.{TakesLine, EndsBy};
+ghost use Rattle.pq_run.specs.Refusals.{refusal_of_reading, refusal_of_answer, too_long_line, fault_line, kind_text, limit_text};
+ghost use Rattle.pq_run.specs.Streams.{writing_of};
+ghost use Rattle.pq_run.specs.Ends.{TakesLine, EndsBy};
 ghost use Rattle.pq_run.specs.declared.refusal.Refusal.TheVariants.{NoMemory as WantOfMemory, Text as FaultOfText};
 
+use crate::answer::AnswerRefusal;
+use crate::input::Input;
 use lpres_reader::{Kind, ReadRefusal, TextFault, Which};
 use pq_base::{NoMemory, Status};
-use pq_io::{InputRefusal, Sink, write_whole};
+use pq_io::{Sink, write_whole};
 use std::alloc::Global;
 
 /// Why a command is refused.
@@ -23,24 +26,12 @@ pub enum Refusal {
     UnbuiltEndos,
     /// A read failed.
     ReadFault,
-    /// The input has more bytes than a presentation may have.
-    InputTooLong,
+    /// The input has more bytes than it may have.
+    InputTooLong(Input),
     /// The input is no presentation: this is its first fault.
     Text(TextFault),
     /// Nothing could be allocated.
     NoMemory,
-}
-
-impl From<InputRefusal> for Refusal {
-    ghost from_gives = { λ refused e. e ≡ refusal_of_input refused };
-
-    fn from(refused: InputRefusal) -> Refusal {
-        match refused {
-            InputRefusal::Failed => Refusal::ReadFault,
-            InputRefusal::TooLong => Refusal::InputTooLong,
-            InputRefusal::NoMemory => Refusal::NoMemory,
-        }
-    }
 }
 
 impl From<ReadRefusal> for Refusal {
@@ -50,6 +41,16 @@ impl From<ReadRefusal> for Refusal {
         match refused {
             ReadRefusal::Text(fault) => Refusal::Text(fault),
             ReadRefusal::NoMemory => Refusal::NoMemory,
+        }
+    }
+}
+
+impl From<AnswerRefusal> for Refusal {
+    ghost from_gives = { λ refused e. e ≡ refusal_of_answer refused };
+
+    fn from(refused: AnswerRefusal) -> Refusal {
+        match refused {
+            AnswerRefusal::NoMemory => Refusal::NoMemory,
         }
     }
 }
@@ -65,7 +66,7 @@ impl From<NoMemory> for Refusal {
 /// Writes the line of a refusal, and gives its status, also where the sink fails. Only the line of a text's fault needs
 /// memory; where it is wanting, that is told in place of the fault.
 pub fn refuse<K: Sink>(alloc: Global, sink: &mut K, refusal: Refusal) -> Status
-    ensures ends { EndsBy refusal (K.taken sink.old) (K.taken sink.new) (K.faults sink.old) (K.faults sink.new) result }
+    ensures ends { EndsBy refusal (writing_of K.taken K.faults sink.old sink.new) result }
     ensures count { K.faults sink.old ≤ K.faults sink.new }
     ensures silent { IsNone (K.taken sink.old) → IsNone (K.taken sink.new) }
 {
@@ -77,11 +78,9 @@ pub fn refuse<K: Sink>(alloc: Global, sink: &mut K, refusal: Refusal) -> Status
         Refusal::UnbuiltClass => refuse_by(sink, b"refused: not built: class\n", Status::NotBuilt),
         Refusal::UnbuiltEndos => refuse_by(sink, b"refused: not built: endos\n", Status::NotBuilt),
         Refusal::ReadFault => refuse_by(sink, b"refused: read fault\n", Status::ReadFault),
-        Refusal::InputTooLong => refuse_by(
-            sink,
-            b"refused: input above 4194304 bytes\n",
-            Status::InputTooLong,
-        ),
+        Refusal::InputTooLong(input) => {
+            refuse_by(sink, too_long_line(input), Status::InputTooLong)
+        }
         Refusal::Text(fault) => refuse_text(alloc, sink, fault),
         Refusal::NoMemory => refuse_by(sink, b"refused: no memory\n", Status::NoMemory),
     }
@@ -89,7 +88,7 @@ pub fn refuse<K: Sink>(alloc: Global, sink: &mut K, refusal: Refusal) -> Status
 
 /// Writes the line of a text's fault.
 fn refuse_text<K: Sink>(alloc: Global, sink: &mut K, fault: TextFault) -> Status
-    ensures ends { EndsBy (FaultOfText fault) (K.taken sink.old) (K.taken sink.new) (K.faults sink.old) (K.faults sink.new) result }
+    ensures ends { EndsBy (FaultOfText fault) (writing_of K.taken K.faults sink.old sink.new) result }
     ensures count { K.faults sink.old ≤ K.faults sink.new }
     ensures silent { IsNone (K.taken sink.old) → IsNone (K.taken sink.new) }
 {
@@ -102,12 +101,22 @@ fn refuse_text<K: Sink>(alloc: Global, sink: &mut K, fault: TextFault) -> Status
 /// Writes a line, and gives the status, also where the sink fails.
 fn refuse_by<K: Sink>(sink: &mut K, line: &[u8], status: Status) -> Status
     ensures status { result ≡ status }
-    ensures line { TakesLine (K.taken sink.old) (K.taken sink.new) (K.faults sink.old) (K.faults sink.new) line.now }
+    ensures line { TakesLine (writing_of K.taken K.faults sink.old sink.new) line.now }
     ensures count { K.faults sink.old ≤ K.faults sink.new }
     ensures silent { IsNone (K.taken sink.old) → IsNone (K.taken sink.new) }
 {
     let _ = write_whole(sink, line);
     status
+}
+
+/// The line that says that an input is too long.
+fn too_long_line(input: Input) -> &'static [u8]
+    ensures { result.now ≡ too_long_line input }
+{
+    match input {
+        Input::Presentation => b"refused: input above 4194304 bytes\n",
+        Input::Certificate => b"refused: input above 268435456 bytes\n",
+    }
 }
 
 /// The line that says where a text has its first fault, and what it is.

@@ -1,60 +1,62 @@
 // The top call: from the words of a command and the bytes of a source to the bytes that a sink takes.
-ghost use Rattle.std.specs.Prelude.{◌≡◌, ◌+◌, ◌⊎◌, ◌↔◌, ◌≤◌, ℕ, List, IfSome, IsNone, Some, drop};
+ghost use Rattle.std.specs.Prelude.{◌≡◌, ◌≢◌, ◌+◌, ◌⊎◌, ◌↔◌, ◌≤◌, ℕ, List, IfSome, IsNone};
 ghost use Rattle.pq_io.specs.Faults.{Rose};
 ghost use Rattle.pq_io.specs.Writing.{Gains, GainsProperPrefix};
-ghost use Rattle.pq_run.specs.Command.{AreCommandWords, CommandWords};
-ghost use Rattle.pq_run.specs.Forms.{first_class_command};
-ghost use Rattle.pq_run.specs.Inputs.{IsTooLong, IsShort, IsReadable, HasEndos, IsBuiltInput, byte_limit};
-ghost use Rattle.pq_run.specs.Output.{WritesOutput, WritesPart};
-ghost use Rattle.pq_run.specs.Causes.{AskUnbuiltCommand, AskHigherClass, AskFirstClass, Refuses};
-ghost use Rattle.pq_run.specs.Ends.{Ends, Streams};
+ghost use Rattle.pq_run.specs.declared.input.Input.TheVariants.{Presentation};
+ghost use Rattle.pq_run.specs.Command.{AreCommandWords, CommandWords, Asks};
+ghost use Rattle.pq_run.specs.Input.{byte_limit, IsTaken, IsTakenBy};
+ghost use Rattle.pq_run.specs.Form.{quotient_command};
+ghost use Rattle.pq_run.specs.Built.{IsBuiltClass, IsUnbuilt, HasUnbuiltClass, IsReading};
+ghost use Rattle.pq_run.specs.Built.{IsTooLong, IsBadText, HasUnbuiltEndos, IsAnswered};
+ghost use Rattle.pq_run.specs.Streams.{reading_of, writing_of};
+ghost use Rattle.pq_run.specs.Ends.{IsDone, IsCut, IsRefused, IsDecided, Ends};
 
+use crate::answer::is_built_class;
 use crate::command::{Command, parse_words};
 use crate::form::Form;
-use crate::input::answer_of_source;
+use crate::output::output_of_source;
 use crate::refusal::{Refusal, refuse};
 use crate::words::Words;
 use pq_base::{Prime, Status};
 use pq_io::{Sink, Source, write_whole};
 use std::alloc::Global;
 
-/// Carries out the command that the words spell: reads a presentation from the source to its end and writes the
-/// result, or a line that says why the command is refused. The line is written as far as the sink takes it.
+/// Carries out the command that the words spell: reads its input to the end and writes its output, or a line that says why
+/// the command is refused. The line is written as far as the sink takes it.
 /// Built so far: `quotient P 1` and `quotient P 1 json`, for presentations without endomorphisms.
 pub fn run<S: Source, K: Sink>(alloc: Global, words: &Words, source: &mut S, sink: &mut K) -> Status
-    // The input was read to its end, and its output was written, and nothing else.
-    ensures done { result ≡ Status.Done → WritesOutput words.now (S.left source.old) (S.left source.new) (K.taken sink.old) (K.taken sink.new) }
+    // With status 0 the command has read its input to its end, and has written one output, and nothing else.
+    ensures done { result ≡ Status.Done
+        → IsDone words.now (reading_of S.left S.faults source.old source.new) (writing_of K.taken K.faults sink.old sink.new) }
 
-    // Only a sink that failed ends a result early.
+    // Only a sink that failed ends an output early.
     ensures write_fault { result ≡ Status.WriteFault
-        → Rose (K.faults sink.old) (K.faults sink.new) × WritesPart words.now (S.left source.old) (S.left source.new) (K.taken sink.old) (K.taken sink.new) }
+        → IsCut words.now (reading_of S.left S.faults source.old source.new) (writing_of K.taken K.faults sink.old sink.new) }
 
     // Every other status is a refusal with its cause, and its line was written.
-    ensures refused { (result ≡ Status.Done) ⊎ ((result ≡ Status.WriteFault)
-        ⊎ Refuses words.now (S.left source.old) (S.faults source.old) (S.faults source.new) (K.taken sink.old) (K.taken sink.new) (K.faults sink.old) (K.faults sink.new) result) }
+    ensures refused { result ≢ Status.Done → result ≢ Status.WriteFault
+        → IsRefused words.now (reading_of S.left S.faults source.old source.new) (writing_of K.taken K.faults sink.old sink.new) result }
 
-    // What the words alone decide needs no memory.
+    // What the words alone decide needs no memory, and leaves the source as it was.
     ensures bad_words { (result ≡ Status.BadWords) ↔ (¬ AreCommandWords words.now) }
-    ensures command { AskUnbuiltCommand words.now → result ≡ Status.NotBuilt }
-    ensures class { AskHigherClass words.now → result ≡ Status.NotBuilt }
-    ensures untouched { ¬ AskFirstClass words.now → (S.left source.new ≡ S.left source.old) × (S.faults source.new ≡ S.faults source.old) }
+    ensures command { Asks IsUnbuilt words.now → result ≡ Status.NotBuilt }
+    ensures class { Asks HasUnbuiltClass words.now → result ≡ Status.NotBuilt }
+    ensures untouched { ¬ Asks IsReading words.now → S.left source.new ≡ S.left source.old }
+    ensures uncounted { ¬ Asks IsReading words.now → S.faults source.new ≡ S.faults source.old }
 
     // What the input decides comes, unless a read fails or memory is wanting before.
-    ensures too_long { IfSome (S.left source.old) (λ bytes. AskFirstClass words.now → IsTooLong bytes
-        → (result ≡ Status.InputTooLong) ⊎ ((result ≡ Status.ReadFault) ⊎ (result ≡ Status.NoMemory))) }
-    ensures bad_text { IfSome (S.left source.old) (λ bytes. AskFirstClass words.now → IsShort bytes → ¬ IsReadable bytes
-        → (result ≡ Status.BadText) ⊎ ((result ≡ Status.ReadFault) ⊎ (result ≡ Status.NoMemory))) }
-    ensures endos { IfSome (S.left source.old) (λ bytes. AskFirstClass words.now → IsShort bytes → HasEndos bytes
-        → (result ≡ Status.NotBuilt) ⊎ ((result ≡ Status.ReadFault) ⊎ (result ≡ Status.NoMemory))) }
+    ensures too_long { IfSome (S.left source.old) (λ bytes. Asks (IsTooLong bytes) words.now → IsDecided Status.InputTooLong result) }
+    ensures bad_text { IfSome (S.left source.old) (λ bytes. Asks (IsBadText bytes) words.now → IsDecided Status.BadText result) }
+    ensures endos { IfSome (S.left source.old) (λ bytes. Asks (HasUnbuiltEndos bytes) words.now → IsDecided Status.NotBuilt result) }
 
-    // Where nothing fails and the input is built, the command is done, unless memory is wanting.
-    ensures complete { IfSome (S.left source.old) (λ bytes. AskFirstClass words.now → IsBuiltInput bytes
+    // Where nothing fails and the input is one that is answered, the command is done, unless memory is wanting.
+    ensures complete { IfSome (S.left source.old) (λ bytes. Asks (IsAnswered bytes) words.now
         → ¬ Rose (S.faults source.old) (S.faults source.new) → ¬ Rose (K.faults sink.old) (K.faults sink.new)
         → (result ≡ Status.Done) ⊎ (result ≡ Status.NoMemory)) }
 
     ensures read_count { S.faults source.old ≤ S.faults source.new }
     ensures write_count { K.faults sink.old ≤ K.faults sink.new }
-    ensures left { IfSome (S.left source.old) (λ bytes. (n : ℕ) × (n ≤ byte_limit + 1) × (S.left source.new ≡ Some (drop n bytes))) }
+    ensures left { IsTakenBy words.now (S.left source.old) (S.left source.new) }
     ensures silent { IsNone (K.taken sink.old) → IsNone (K.taken sink.new) }
 {
     carry_out(alloc, words, source, sink)
@@ -66,41 +68,51 @@ fn carry_out<S: Source, K: Sink>(
     source: &mut S,
     sink: &mut K,
 ) -> Status
-    ensures ends { Ends words.now (record { left = S.left source.old; rest = S.left source.new; read_before = S.faults source.old; read_after = S.faults source.new; taken = K.taken sink.old; then = K.taken sink.new; write_before = K.faults sink.old; write_after = K.faults sink.new }) result }
-    ensures untouched { ¬ AskFirstClass words.now → (S.left source.new ≡ S.left source.old) × (S.faults source.new ≡ S.faults source.old) }
+    ensures ends { Ends words.now
+        (reading_of S.left S.faults source.old source.new) (writing_of K.taken K.faults sink.old sink.new) result }
+    ensures untouched { ¬ Asks IsReading words.now → S.left source.new ≡ S.left source.old }
+    ensures uncounted { ¬ Asks IsReading words.now → S.faults source.new ≡ S.faults source.old }
     ensures read_count { S.faults source.old ≤ S.faults source.new }
     ensures write_count { K.faults sink.old ≤ K.faults sink.new }
-    ensures left { IfSome (S.left source.old) (λ bytes. (n : ℕ) × (n ≤ byte_limit + 1) × (S.left source.new ≡ Some (drop n bytes))) }
+    ensures left { IsTakenBy words.now (S.left source.old) (S.left source.new) }
     ensures silent { IsNone (K.taken sink.old) → IsNone (K.taken sink.new) }
 {
     match parse_words(words) {
         None => refuse(alloc, sink, Refusal::Words),
-        Some(Command::Quotient(prime, 1)) => quotient(alloc, prime, Form::Text, source, sink),
-        Some(Command::Json(prime, 1)) => quotient(alloc, prime, Form::Json, source, sink),
-        Some(Command::Quotient(..)) => refuse(alloc, sink, Refusal::UnbuiltClass),
-        Some(Command::Json(..)) => refuse(alloc, sink, Refusal::UnbuiltClass),
+        Some(Command::Quotient(prime, class)) => {
+            quotient(alloc, prime, class, Form::Text, source, sink)
+        }
+        Some(Command::Json(prime, class)) => {
+            quotient(alloc, prime, class, Form::Json, source, sink)
+        }
         Some(Command::Certify(..)) => refuse(alloc, sink, Refusal::UnbuiltCommand),
         Some(Command::Check) => refuse(alloc, sink, Refusal::UnbuiltCommand),
         Some(Command::Sample(_)) => refuse(alloc, sink, Refusal::UnbuiltCommand),
     }
 }
 
-/// Reads a presentation and writes its answer of class 1.
+/// Reads a presentation and writes the answer that is asked for, where its class is built.
 fn quotient<S: Source, K: Sink>(
     alloc: Global,
     prime: Prime,
+    class: u8,
     form: Form,
     source: &mut S,
     sink: &mut K,
 ) -> Status
-    ensures ends { (words : List (List ℕ)) → CommandWords words (first_class_command form prime)
-        → Ends words (record { left = S.left source.old; rest = S.left source.new; read_before = S.faults source.old; read_after = S.faults source.new; taken = K.taken sink.old; then = K.taken sink.new; write_before = K.faults sink.old; write_after = K.faults sink.new }) result }
+    ensures ends { (words : List (List ℕ)) → CommandWords words (quotient_command prime class form)
+        → Ends words (reading_of S.left S.faults source.old source.new) (writing_of K.taken K.faults sink.old sink.new) result }
+    ensures untouched { ¬ IsBuiltClass class → S.left source.new ≡ S.left source.old }
+    ensures uncounted { ¬ IsBuiltClass class → S.faults source.new ≡ S.faults source.old }
     ensures read_count { S.faults source.old ≤ S.faults source.new }
     ensures write_count { K.faults sink.old ≤ K.faults sink.new }
-    ensures left { IfSome (S.left source.old) (λ bytes. (n : ℕ) × (n ≤ byte_limit + 1) × (S.left source.new ≡ Some (drop n bytes))) }
+    ensures left { IsTaken (byte_limit Presentation + 1) (S.left source.old) (S.left source.new) }
     ensures silent { IsNone (K.taken sink.old) → IsNone (K.taken sink.new) }
 {
-    match answer_of_source(alloc, prime, form, source) {
+    if !is_built_class(class) {
+        return refuse(alloc, sink, Refusal::UnbuiltClass);
+    }
+    match output_of_source(alloc, prime, class, form, source) {
         Ok(bytes) => finish(sink, &bytes),
         Err(refusal) => refuse(alloc, sink, refusal),
     }
@@ -109,7 +121,8 @@ fn quotient<S: Source, K: Sink>(
 /// Writes a result.
 fn finish<K: Sink>(sink: &mut K, text: &[u8]) -> Status
     ensures ends { ((result ≡ Status.Done) × Gains (K.taken sink.old) (K.taken sink.new) text.now)
-        ⊎ ((result ≡ Status.WriteFault) × Rose (K.faults sink.old) (K.faults sink.new) × GainsProperPrefix (K.taken sink.old) (K.taken sink.new) text.now) }
+        ⊎ ((result ≡ Status.WriteFault) × Rose (K.faults sink.old) (K.faults sink.new)
+        × GainsProperPrefix (K.taken sink.old) (K.taken sink.new) text.now) }
     ensures count { K.faults sink.old ≤ K.faults sink.new }
     ensures silent { IsNone (K.taken sink.old) → IsNone (K.taken sink.new) }
 {

@@ -1,9 +1,9 @@
 use Rattle.std.proofs.Common.{◌≡◌, ◌++◌, ℕ, List, drop, refl, ap, sym, subst, ◌∙◌}
 use Rattle.std.specs.Prelude.{codes}
 use Rattle.pq_base.specs.Name.{IsName}
-use Rattle.answer_text.proofs.PieceTexts.{IfNone-of}
+use Rattle.answer_text.proofs.texts.PieceTexts.{IfNone-of}
 use Rattle.answer_text.proofs.ImagesTold.{avoids-name}
-use Rattle.answer_text.proofs.LineTexts.{sides-same}
+use Rattle.answer_text.proofs.lines.LineTexts.{sides-same}
 use Rattle.answer_text.proofs.line_reading.image_start.Goals as goal
 
 pub returns-in_err-left-clause-none : goal.returns-in_err-left-clause-none

@@ -1,7 +1,7 @@
 use Rattle.std.proofs.Common.{◌≡◌, ◌<◌, ℕ, ap₂, sym, ◌∙◌, arith}
 use borrow.Author.Tests.{eqb-true, eq-eqb}
 use Rattle.answer_text.specs.AnswerPlaces.{order_line}
-use Rattle.answer_text.proofs.LineTexts.{order_line-same}
+use Rattle.answer_text.proofs.lines.LineTexts.{order_line-same}
 use Rattle.answer_text.proofs.line_reading.is_order_line.Goals as goal
 
 pub returns-then-p-from : goal.returns-then-p-from

@@ -1,7 +1,7 @@
 use Rattle.std.proofs.Common.{◌≡◌, ◌<◌, ◌++◌, ◌∷◌, ℕ, List, drop, decimal, refl, ap, sym, ◌∙◌}
 use Rattle.std.specs.Prelude.{codes}
 use Rattle.answer_text.specs.AnswerPlaces.{generator_start}
-use Rattle.answer_text.proofs.PieceTexts.{IfNone-of, number_before-same}
+use Rattle.answer_text.proofs.texts.PieceTexts.{IfNone-of, number_before-same}
 use Rattle.answer_text.proofs.line_reading.numbers.Goals as goal
 
 -- what stands behind the number

@@ -1,6 +1,6 @@
 use Rattle.std.proofs.Common.{◌≡◌, ◌<◌, ℕ, List, drop, decimal, refl, ap, sym, ◌∙◌}
 use Rattle.answer_text.specs.AnswerPlaces.{order_line}
-use Rattle.answer_text.proofs.PieceTexts.{IfNone-of, number_before-same}
+use Rattle.answer_text.proofs.texts.PieceTexts.{IfNone-of, number_before-same}
 use Rattle.answer_text.proofs.line_reading.order.Goals as goal
 
 pub returns-in_err-number-clause-none : goal.returns-in_err-number-clause-none

@@ -1,8 +1,8 @@
 use Rattle.std.proofs.Common.{◌≡◌, ◌<◌, ◌∷◌, ℕ, List, drop, decimal, ap, sym, subst, ◌∙◌, arith}
 use Rattle.pq_base.specs.Prime.{IsOffered}
+use Rattle.pq_base.proofs.PrimeLaws.{offered-small}
 use Rattle.answer_text.specs.AnswerPlaces.{prime_line}
-use Rattle.answer_text.proofs.PieceTexts.{IfNone-then, number-same}
-use Rattle.answer_text.proofs.FormLaws.{offered-small}
+use Rattle.answer_text.proofs.texts.PieceTexts.{IfNone-then, number-same}
 use Rattle.answer_text.proofs.line_reading.prime_line.Goals as goal
 
 told : (line rest : List ℕ) (p q : ℕ) → line ≡ prime_line p → p < 8 → q < 1000 → line ≡ 112 ∷ 114 ∷ 105 ∷ 109 ∷ 101 ∷ 32 ∷ rest → rest ≡ decimal q → q ≡ p

@@ -1,5 +1,5 @@
 use Rattle.std.proofs.Common.{◌≡◌, ℕ, List, drop, decimal, ap, sym, ◌∙◌, arith}
-use Rattle.answer_text.proofs.PieceTexts.{number-same}
+use Rattle.answer_text.proofs.texts.PieceTexts.{number-same}
 use Rattle.answer_text.proofs.line_reading.rank_line.Goals as goal
 
 pub returns-else-n-le-RANK-clause-none : goal.returns-else-n-le-RANK-clause-none

@@ -5,8 +5,8 @@ use Rattle.std.specs.Global.{Global}
 use Rattle.pc_presentation.specs.declared.syllable.Syllable.{Syllable}
 use Rattle.pc_presentation.specs.Syllable.{AreSyllables}
 use Rattle.answer_text.specs.Words.{word_text}
-use Rattle.answer_text.proofs.PieceTexts.{IfNone-at}
-use Rattle.answer_text.proofs.LineTexts.{no-relation-word, no-empty-word}
+use Rattle.answer_text.proofs.texts.PieceTexts.{IfNone-at}
+use Rattle.answer_text.proofs.lines.LineTexts.{no-relation-word, no-empty-word}
 use Rattle.answer_text.proofs.line_reading.relation_line.Goals as goal
 
 pub returns-in_default-2-clause-none : goal.returns-in_default-2-clause-none

@@ -3,8 +3,8 @@ use Rattle.std.specs.Prelude.{codes}
 use Rattle.pc_presentation.specs.declared.relation.Relation.{Relation}
 use Rattle.pc_presentation.specs.Relation.{IsRelation}
 use Rattle.answer_text.specs.AnswerPlaces.{left_text}
-use Rattle.answer_text.proofs.PieceTexts.{IfNone-of}
-use Rattle.answer_text.proofs.LineTexts.{avoids-space, sides-same}
+use Rattle.answer_text.proofs.texts.PieceTexts.{IfNone-of}
+use Rattle.answer_text.proofs.lines.LineTexts.{avoids-space, sides-same}
 use Rattle.answer_text.proofs.line_reading.relation_start.Goals as goal
 
 pub returns-in_err-left-clause-none : goal.returns-in_err-left-clause-none

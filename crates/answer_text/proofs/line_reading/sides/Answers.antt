@@ -2,7 +2,7 @@ use Rattle.std.proofs.Common.{◌≡◌, ◌++◌, ◌∷◌, ℕ, true, List, a
 use Rattle.std.specs.Prelude.{codes}
 use Rattle.answer_text.specs.Lines.{avoids}
 use Rattle.answer_text.proofs.Splits.{split-same}
-use Rattle.answer_text.proofs.PieceTexts.{IfNone-of, avoids-not}
+use Rattle.answer_text.proofs.texts.PieceTexts.{IfNone-of, avoids-not}
 use Rattle.answer_text.proofs.line_reading.sides.Goals as goal
 
 pub returns-in_err-left-clause-none : goal.returns-in_err-left-clause-none

@@ -3,7 +3,7 @@ use Rattle.pc_presentation.specs.declared.relation.Relation.TheVariants.{Commuta
 use Rattle.pc_presentation.specs.Relation.{IsRelation}
 use Rattle.answer_text.specs.AnswerText.{commutator_text}
 use Rattle.std.proofs.Common.{◌≡◌, ◌<◌, ℕ, List, [], ◌∷◌, ◌++◌, drop, decimal, refl, ap, sym, ◌∙◌, arith}
-use Rattle.answer_text.proofs.PieceTexts.{IfNone-of, number_before-same}
+use Rattle.answer_text.proofs.texts.PieceTexts.{IfNone-of, number_before-same}
 use Rattle.answer_text.proofs.pieces.commutator.Goals as goal
 use Rattle.answer_text.proofs.pieces.commutator.Goals.{else-is_empty-via-else-is_empty, else-is_empty-via-then-is_empty+else-i-ge1, else-is_empty-via-then-is_empty+then-i-ge1+else-i-j, else-is_empty-via-then-is_empty+then-i-ge1+then-i-j+else-j-rank}
 

@@ -1,4 +1,4 @@
-use Rattle.answer_text.proofs.NumberTexts.{number-some, number-none}
+use Rattle.answer_text.proofs.texts.NumberTexts.{number-some, number-none}
 use Rattle.answer_text.proofs.pieces.number.Goals as goal
 
 pub returns-clause-some : goal.returns-clause-some

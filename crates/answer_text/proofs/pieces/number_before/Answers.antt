@@ -1,5 +1,5 @@
 use Rattle.std.proofs.Common.{◌≡◌, ◌<◌, ◌++◌, ◌∷◌, ℕ, List, decimal}
-use Rattle.answer_text.proofs.PieceTexts.{IfNone-of, decimal-missing, decimal-before}
+use Rattle.answer_text.proofs.texts.PieceTexts.{IfNone-of, decimal-missing, decimal-before}
 use Rattle.answer_text.proofs.pieces.number_before.Goals as goal
 
 pub returns-in_err-digits-clause-none : goal.returns-in_err-digits-clause-none

@@ -3,7 +3,7 @@ use Rattle.pc_presentation.specs.declared.relation.Relation.TheVariants.{Power}
 use Rattle.pc_presentation.specs.Relation.{IsRelation}
 use Rattle.answer_text.specs.AnswerText.{power_text}
 use Rattle.std.proofs.Common.{◌≡◌, ◌<◌, ℕ, List, drop, decimal, refl, ap, sym, ◌∙◌, arith}
-use Rattle.answer_text.proofs.PieceTexts.{IfNone-of, number_before-same, number-same}
+use Rattle.answer_text.proofs.texts.PieceTexts.{IfNone-of, number_before-same, number-same}
 use Rattle.answer_text.proofs.pieces.power.Goals as goal
 use Rattle.answer_text.proofs.pieces.power.Goals.{else-branch-from-via-else-branch-from, else-branch-from-via-then-branch-from+else-j-ge1, else-branch-from-via-then-branch-from+then-j-ge1+else-j-rank}
 

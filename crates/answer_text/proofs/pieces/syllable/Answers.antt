@@ -1,7 +1,7 @@
 use Rattle.std.proofs.Common.{◌≡◌, ◌<◌, ◌++◌, ◌∷◌, ℕ, List, drop, decimal, ap, sym, ◌∙◌, arith}
 use Rattle.pc_presentation.specs.declared.syllable.Syllable.{Syllable}
 use Rattle.answer_text.specs.Words.{exponent_text, syllable_text, IsWritten}
-use Rattle.answer_text.proofs.PieceTexts.{IfNone-of, syllable-plain, syllable-power, number-same}
+use Rattle.answer_text.proofs.texts.PieceTexts.{IfNone-of, syllable-plain, syllable-power, number-same}
 use Rattle.answer_text.proofs.pieces.syllable.Goals as goal
 use Rattle.answer_text.proofs.pieces.syllable.Goals.{then-exponent-lt-LEAST_EXPONENT-via-else-exponent-lt-LEAST_EXPONENT+then-exponent-ge100, then-exponent-lt-LEAST_EXPONENT-via-then-exponent-lt-LEAST_EXPONENT}
 

@@ -8,7 +8,7 @@ use Rattle.pq_base.specs.Answer.{Answer}
 use Rattle.answer_text.specs.AnswerText.{answer_text}
 use Rattle.answer_text.specs.Sources.{AreResolved}
 use Rattle.answer_text.specs.Drafts.{SoFar, so_far}
-use Rattle.answer_text.proofs.ReadLines.{no_answer-parts, no_answer-text}
+use Rattle.answer_text.proofs.lines.ReadLines.{no_answer-parts, no_answer-text}
 use Rattle.answer_text.proofs.reading.answer_of.Goals as goal
 
 pub returns-in_default-clause-none : goal.returns-in_default-clause-none

@@ -6,7 +6,7 @@ use Rattle.pc_presentation.specs.Definition.{definition_of}
 use Rattle.pq_base.specs.Answer.{Definition as Meaning}
 use Rattle.answer_text.specs.declared.source.Source.{Source}
 use Rattle.answer_text.specs.Sources.{Resolves, AreResolved}
-use Rattle.answer_text.proofs.SourceLines.{AreResolved-push}
+use Rattle.answer_text.proofs.lines.SourceLines.{AreResolved-push}
 use Rattle.answer_text.proofs.reading.definitions.Goals as goal
 
 next : (names : List (List ℕ)) (ss : List Source) (i j : ℕ) (s : Source) (ds es : List Definition) (d : Definition) → i < length ss → j ≡ suc i → s ≡ get_or ss i s → es ≡ ds ++ d ∷ []

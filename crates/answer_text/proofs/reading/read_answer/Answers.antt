@@ -4,9 +4,9 @@ use Rattle.answer_text.specs.declared.source.Source.{Source}
 use Rattle.answer_text.specs.AnswerFaults.{IsAnswerText}
 use Rattle.answer_text.specs.Drafts.{SoFar, so_far}
 use Rattle.answer_text.specs.BodyRead.{IsRead}
-use Rattle.answer_text.proofs.FaultsOfParts.{IfNone-at}
-use Rattle.answer_text.proofs.ReadLines.{IsFaultLine-read}
+use Rattle.answer_text.proofs.lines.ReadLines.{IsFaultLine-read}
 use Rattle.answer_text.proofs.reading.read_answer.Goals as goal
+use Rattle.answer_text.proofs.texts.PieceTexts.{IfNone-at}
 
 pub returns-clause-fault : goal.returns-clause-fault
 returns-clause-fault c =

@@ -1,10 +1,12 @@
 use Rattle.std.proofs.Common.{◌≡◌, ◌<◌, ◌≤◌, ◌+◌, ◌-◌, ℕ, List, length, ap, subst, ◌∙◌, arith}
+use Rattle.pq_base.specs.Limits.{max_class}
 use Rattle.pq_base.specs.Prime.{prime_value}
+use Rattle.pq_base.proofs.PrimeLaws.{prime_value-offered}
 use Rattle.answer_text.specs.declared.source.Source.{Source}
 use Rattle.answer_text.specs.AnswerPlaces.{IsScale, IsSource, source_line}
 use Rattle.answer_text.specs.AnswerPlaces.Place.{in_body}
 use Rattle.answer_text.proofs.GeneratorsRead.{length-push, legible-push, lines-push}
-use Rattle.answer_text.proofs.BadLines.{no-line, bad-line, open-body, offered-value, generators-bad, no-next-generator}
+use Rattle.answer_text.proofs.lines.BadLines.{no-line, bad-line, open-body, generators-bad, no-next-generator}
 use Rattle.answer_text.proofs.reading.read_generators.Goals as goal
 
 pub returns-in_default-clause-err : goal.returns-in_default-clause-err
@@ -12,7 +14,7 @@ returns-in_default-clause-err c =
     let p : ℕ = prime_value c.args.head.prime in
     let n : ℕ = c.args.head.rank in
     let k : ℕ = c.loop-k.k in
-    let z : IsScale p n = record { offered = offered-value c.args.head.prime; limit = c.requires } in
+    let z : IsScale p n = record { offered = prime_value-offered c.args.head.prime; limit = c.requires } in
     let inside : k < n = omega (arith, c.loop-k-test.true) in (
       k,
       omega (arith, c.from-number.ensures),
@@ -25,9 +27,9 @@ returns-in_default-generator_line-clause-err c =
     let p : ℕ = prime_value c.args.head.prime in
     let n : ℕ = c.args.head.rank in
     let k : ℕ = c.loop-k.k in
-    let z : IsScale p n = record { offered = offered-value c.args.head.prime; limit = c.requires } in
+    let z : IsScale p n = record { offered = prime_value-offered c.args.head.prime; limit = c.requires } in
     let inside : k < n = omega (arith, c.loop-k-test.true) in
-    let none = subst (λ (x : ℕ). (w : ℕ) (s : Source) → 1 ≤ w → w ≤ 60 → IsSource n s → ¬ (c.in-Some.line.now ≡ source_line x (k + 1) w s)) c.value-prime.ensures.value c.in_default-generator_line.ensures.none in (
+    let none = subst (λ (x : ℕ). (w : ℕ) (s : Source) → 1 ≤ w → w ≤ max_class → IsSource n s → ¬ (c.in-Some.line.now ≡ source_line x (k + 1) w s)) c.value-prime.ensures.value c.in_default-generator_line.ensures.none in (
       k,
       omega (arith, c.from-number.ensures),
       generators-bad p n k c.loop-k.weights.items c.loop-k.sources.items c.args.text.now c.loop-k.rest.now z c.loop-k.invariant.weights c.loop-k.invariant.sources (omega arith) c.loop-k.invariant.legible c.loop-k.invariant.lines

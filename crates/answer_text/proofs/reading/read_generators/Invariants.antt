@@ -1,6 +1,6 @@
 use Rattle.std.proofs.Common.{◌≡◌, ◌≤◌, ◌+◌, ◌++◌, length}
 use Rattle.pq_base.specs.Prime.{prime_value}
-use Rattle.answer_text.specs.Lines.{text_of_lines}
+use Rattle.pq_base.specs.Lines.{text_of_lines}
 use Rattle.answer_text.specs.ReadSoFar.{source_lines, AreSources}
 use Rattle.answer_text.proofs.reading.read_generators.Given as goal
 

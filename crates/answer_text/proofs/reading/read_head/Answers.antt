@@ -1,7 +1,8 @@
 use Rattle.std.proofs.Common.{ℕ, arith}
 use Rattle.pq_base.specs.Prime.{prime_value}
+use Rattle.pq_base.proofs.PrimeLaws.{prime_value-offered}
 use Rattle.answer_text.specs.AnswerPlaces.Place.{for_prime, for_class}
-use Rattle.answer_text.proofs.BadLines.{no-line, bad-line, no-prime, open-prime, offered-value, prime-form, IsBadAt-before}
+use Rattle.answer_text.proofs.lines.BadLines.{no-line, bad-line, no-prime, open-prime, prime-form, IsBadAt-before}
 use Rattle.answer_text.proofs.reading.read_head.Goals as goal
 
 pub returns-in_default-clause-err : goal.returns-in_default-clause-err
@@ -15,4 +16,4 @@ pub returns-in-Err-clause-err : goal.returns-in-Err-clause-err
 returns-in-Err-clause-err c =
     let p : ℕ = prime_value c.in-Some-prime_line.prime in
     IsBadAt-before for_prime (for_class p) c.in-Some.line.now c.in-Some.rest.now c.args.bytes.now 1 c.in-Err.fault
-    (prime-form c.in-Some.line.now p (offered-value c.in-Some-prime_line.prime) c.in-Some-prime_line.ensures.some) c.in-Some.ensures.some c.in-Err.ensures.err
+    (prime-form c.in-Some.line.now p (prime_value-offered c.in-Some-prime_line.prime) c.in-Some-prime_line.ensures.some) c.in-Some.ensures.some c.in-Err.ensures.err

@@ -3,14 +3,14 @@ use Rattle.pq_base.specs.Prime.{prime_value}
 use Rattle.pc_presentation.specs.declared.syllable.Syllable.{Syllable}
 use Rattle.pc_presentation.specs.Builder.{Draft, empty_draft}
 use Rattle.pc_presentation.specs.Parts.{words_of}
-use Rattle.pc_presentation.proofs.PcpLaws.{offered-positive}
+use Rattle.pq_base.proofs.PrimeLaws.{offered-two}
 use Rattle.answer_text.specs.AnswerPlaces.{IsScale}
 use Rattle.answer_text.specs.AnswerPlaces.Place.{for_prime}
 use Rattle.answer_text.specs.ReadSoFar.{IsBadAt}
 use Rattle.answer_text.specs.Drafts.{so_far}
 use Rattle.answer_text.specs.BodyRead.{IsBodyRead}
 use Rattle.answer_text.proofs.BodyStart.{IsBodyRead-nothing}
-use Rattle.answer_text.proofs.FaultsOfParts.{IsBadAt-head, IsBadAt-sources, IfErr-given}
+use Rattle.answer_text.proofs.faults.FaultsOfParts.{IsBadAt-head, IsBadAt-sources, IfErr-given}
 use Rattle.answer_text.proofs.reading.read_lines.Goals as goal
 
 pub returns-in_err-weights-clause-err : goal.returns-in_err-weights-clause-err
@@ -29,7 +29,7 @@ read_body-requires-clause-start c =
     let ws : List ℕ = c.in_ok-weights.weights.items in
     let head = c.in_ok-head.ensures.ok in
     let scale : IsScale p n = head.1 in
-    let start : IsBodyRead p n ws text text (n + 5) (so_far (empty_draft p ws 0) 0 [] []) = IsBodyRead-nothing p n ws text scale (offered-positive p scale.offered) c.in_ok-weights.ensures.ok.0 in
+    let start : IsBodyRead p n ws text text (n + 5) (so_far (empty_draft p ws 0) 0 [] []) = IsBodyRead-nothing p n ws text scale (offered-two p scale.offered) c.in_ok-weights.ensures.ok.0 in
     let draft : empty_draft p ws 0 ≡ c.in_ok-new.field-0 =
     ap (λ (x : List ℕ). empty_draft p x 0) (sym c.deref.ensures.value) ∙ sym c.in_ok-new.ensures in
     let with_draft : IsBodyRead p n c.in_ok-new.field-0.built.weights text text (n + 5) (so_far c.in_ok-new.field-0 0 [] []) =

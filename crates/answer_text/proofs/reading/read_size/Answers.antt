@@ -2,8 +2,8 @@ use Rattle.std.proofs.Common.{◌≡◌, ℕ, true, false, ap, sym, ◌∙◌, a
 use Rattle.pq_base.specs.Prime.{prime_value}
 use Rattle.answer_text.specs.AnswerPlaces.{order_line}
 use Rattle.answer_text.specs.AnswerPlaces.Place.{for_class, for_rank, for_order}
-use Rattle.answer_text.proofs.FaultLaws.{IsFirstBad-step}
-use Rattle.answer_text.proofs.BadLines.{no-line, bad-line, no-class, no-rank, no-order, open-class, open-rank, open-order, class-form, rank-form}
+use Rattle.answer_text.proofs.faults.FaultLaws.{IsFirstBad-step}
+use Rattle.answer_text.proofs.lines.BadLines.{no-line, bad-line, no-class, no-rank, no-order, open-class, open-rank, open-order, class-form, rank-form}
 use Rattle.answer_text.proofs.reading.read_size.Goals as goal
 
 pub returns-in_default-clause-err : goal.returns-in_default-clause-err

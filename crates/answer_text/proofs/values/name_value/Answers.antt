@@ -1,6 +1,6 @@
 use Rattle.std.proofs.Common.{sym, subst}
 use Rattle.std.specs.Str.{IsUtf8}
-use Rattle.answer_text.proofs.NameTexts.{IsUtf8-name}
+use Rattle.answer_text.proofs.texts.NameTexts.{IsUtf8-name}
 use Rattle.answer_text.proofs.values.name_value.Goals as goal
 
 pub unreachable-requires : goal.unreachable-requires

@@ -1,6 +1,6 @@
 use Rattle.std.proofs.Common.{◌≡◌, ◌≤◌, ℕ, List, OnOk, length, subst, arith}
 use Rattle.answer_text.specs.AnswerText.{commutator_text}
-use Rattle.answer_text.proofs.NextLines.{relation-written}
+use Rattle.answer_text.proofs.lines.NextLines.{relation-written}
 use Rattle.answer_text.proofs.writing.push_commutator_relation.Goals as goal
 
 pub returns : goal.returns

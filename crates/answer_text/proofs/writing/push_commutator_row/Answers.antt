@@ -1,14 +1,14 @@
 use Rattle.std.proofs.Common.{◌≡◌, ◌≤◌, ◌+◌, ◌-◌, ◌++◌, [], ℕ, List, get_or, length, drop, drop_of_length-le, ap, ◌∙◌, arith}
 use Rattle.pq_base.specs.Presentation.{Presentation}
 use Rattle.pq_base.specs.Answer.{Answer}
+use Rattle.pq_base.specs.Lines.{text_of_lines}
 use Rattle.pc_presentation.specs.declared.relation.Relation.TheVariants.{Commutator}
 use Rattle.pc_presentation.specs.declared.syllable.Syllable.{Syllable}
 use Rattle.pc_presentation.specs.Syllable.{syllables_of}
-use Rattle.answer_text.specs.Lines.{text_of_lines}
 use Rattle.answer_text.specs.AnswerText.{commutator_text, relation_lines, commutator_row_lines}
-use Rattle.answer_text.proofs.LineLaws.{text_of_lines-part, text_of_lines-done}
-use Rattle.answer_text.proofs.NextLines.{commutator_row_lines-next}
-use Rattle.answer_text.proofs.SyllableTexts.{AreExponents-right_side}
+use Rattle.pq_base.proofs.LineLaws.{text_of_lines-part, text_of_lines-done}
+use Rattle.answer_text.proofs.lines.NextLines.{commutator_row_lines-next}
+use Rattle.answer_text.proofs.texts.SyllableTexts.{AreExponents-right_side}
 use Rattle.answer_text.proofs.writing.push_commutator_row.Goals as goal
 
 pub push_commutator_relation-requires : goal.push_commutator_relation-requires

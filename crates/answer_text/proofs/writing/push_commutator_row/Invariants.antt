@@ -1,5 +1,5 @@
 use Rattle.std.proofs.Common.{◌≡◌, ◌-◌, ◌++◌, [], drop, get_or}
-use Rattle.answer_text.specs.Lines.{text_of_lines}
+use Rattle.pq_base.specs.Lines.{text_of_lines}
 use Rattle.answer_text.specs.AnswerText.{commutator_row_lines}
 use Rattle.answer_text.proofs.writing.push_commutator_row.Given as goal
 

@@ -2,8 +2,8 @@ use Rattle.std.proofs.Common.{◌≡◌, ◌+◌, ◌-◌, [], ℕ, List, get_or
 use Rattle.pq_base.specs.Presentation.{Presentation}
 use Rattle.pq_base.specs.Answer.{Answer}
 use Rattle.answer_text.specs.AnswerText.{commutator_row_lines}
-use Rattle.answer_text.proofs.LineLaws.{text_of_lines-part}
-use Rattle.answer_text.proofs.NextLines.{commutator_lines-next}
+use Rattle.pq_base.proofs.LineLaws.{text_of_lines-part}
+use Rattle.answer_text.proofs.lines.NextLines.{commutator_lines-next}
 use Rattle.answer_text.proofs.writing.push_commutators.Goals as goal
 
 pub loop-k-preserved : goal.loop-k-preserved

@@ -2,8 +2,8 @@ use Rattle.std.proofs.Common.{◌≡◌, ◌+◌, ◌-◌, ◌++◌, [], ◌∷�
 use Rattle.pq_base.specs.Presentation.{Presentation}
 use Rattle.pq_base.specs.Answer.{Answer, IsAnswer, definition_at}
 use Rattle.answer_text.specs.AnswerText.{generator_line}
-use Rattle.answer_text.proofs.LineLaws.{text_of_lines-next}
-use Rattle.answer_text.proofs.NextLines.{generator_lines-next, generator_line-same}
+use Rattle.pq_base.proofs.LineLaws.{text_of_lines-next}
+use Rattle.answer_text.proofs.lines.NextLines.{generator_lines-next, generator_line-same}
 use Rattle.answer_text.proofs.writing.push_generators.Goals as goal
 
 pub loop-k-preserved : goal.loop-k-preserved

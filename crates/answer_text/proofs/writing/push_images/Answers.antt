@@ -1,15 +1,16 @@
 use Rattle.std.proofs.Common.{◌≡◌, ◌<◌, ◌≤◌, ◌+◌, ◌-◌, [], ℕ, List, get_or, length, ap, arith}
 use Rattle.std.proofs.lemmas.List.{get_or_read}
+use Rattle.pq_base.specs.Limits.{max_names}
 use Rattle.pq_base.specs.Answer.{Answer}
 use Rattle.answer_text.specs.AnswerText.{image_line}
-use Rattle.answer_text.proofs.LineLaws.{text_of_lines-next}
-use Rattle.answer_text.proofs.NextLines.{image_lines-next, image_line-written}
-use Rattle.answer_text.proofs.SyllableTexts.{AreExponents-word}
+use Rattle.pq_base.proofs.LineLaws.{text_of_lines-next}
+use Rattle.answer_text.proofs.lines.NextLines.{image_lines-next, image_line-written}
+use Rattle.answer_text.proofs.texts.SyllableTexts.{AreExponents-word}
 use Rattle.answer_text.proofs.writing.push_images.Goals as goal
 
 pub overflow_add-i : goal.overflow_add-i
 overflow_add-i c =
-    let limit : length c.args.answer.now.names ≤ 32 = c.pcp-pcp.ensures.answer.name_limit in
+    let limit : length c.args.answer.now.names ≤ max_names = c.pcp-pcp.ensures.answer.name_limit in
     let names : length c.names-name-items.result.now ≡ length c.args.answer.now.names = ap (λ (ns : List (List ℕ)). length ns) c.names-name-items.ensures in
     omega (arith, c.loop-name-test.true, c.loop-name.invariant.1)
 

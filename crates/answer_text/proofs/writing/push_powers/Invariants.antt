@@ -1,5 +1,5 @@
 use Rattle.std.proofs.Common.{◌≡◌, ◌++◌, drop}
-use Rattle.answer_text.specs.Lines.{text_of_lines}
+use Rattle.pq_base.specs.Lines.{text_of_lines}
 use Rattle.answer_text.specs.AnswerText.{power_lines}
 use Rattle.answer_text.proofs.writing.push_powers.Given as goal
 

@@ -1,5 +1,5 @@
 use Rattle.std.proofs.Common.{sym, ◌∙◌}
-use Rattle.answer_text.proofs.AnswerLines.{answer_text-parts, written_parts}
+use Rattle.answer_text.proofs.lines.AnswerLines.{answer_text-parts, written_parts}
 use Rattle.answer_text.proofs.writing.text.Goals as goal
 
 pub returns : goal.returns

@@ -1,11 +1,12 @@
 use Rattle.std.proofs.Common.{◌≡◌, ℕ, ◌≤◌, Bool, List, length, replicate, ap, ◌∙◌, arith}
 use Rattle.std.proofs.lemmas.List.{length-replicate}
+use Rattle.pq_base.specs.Limits.{max_names, max_rank}
 use Rattle.pq_base.specs.ClassOne.{left_count}
 use Rattle.class_one.proofs.ImageSteps.{left_count-le}
 use Rattle.class_one.proofs.answer.answer_of_images.Goals as goal
 
-length-weights : (n : ℕ) (pivots : List Bool) (weights : List ℕ) → n ≡ left_count pivots → weights ≡ replicate n 1 → length pivots ≤ 32
-    → length weights ≤ 100
+length-weights : (n : ℕ) (pivots : List Bool) (weights : List ℕ) → n ≡ left_count pivots → weights ≡ replicate n 1 → length pivots ≤ max_names
+    → length weights ≤ max_rank
 length-weights n pivots weights count are few =
     let long : length weights ≡ n = ap length are ∙ length-replicate n 1 in
     omega (arith, left_count-le pivots)

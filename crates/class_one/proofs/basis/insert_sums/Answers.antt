@@ -1,7 +1,7 @@
 use Rattle.std.proofs.Common.{◌≡◌, ◌+◌, ℕ, ℤ, List, [], ◌∷◌, ◌++◌, get_or, take, length, ap, sym, ◌∙◌, subst}
 use Rattle.std.proofs.lemmas.List.{get_or_read, take_more}
 use Rattle.pq_base.specs.SignedWord.{HasLetters}
-use Rattle.pq_base.proofs.LetterLaws.{HasLetters-get_or}
+use Rattle.pq_base.proofs.words.LetterLaws.{HasLetters-get_or}
 use Rattle.fp_rows.specs.Row.{PrimeRow}
 use Rattle.fp_echelon.specs.Basis.{Echelon}
 use Rattle.class_one.specs.ExponentRows.{sums_mod}

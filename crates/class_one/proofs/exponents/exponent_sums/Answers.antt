@@ -2,7 +2,7 @@ use Rattle.std.proofs.Common.{◌≡◌, ◌<◌, ℕ, List, ℤ, pos, FitsSigne
 use Rattle.std.proofs.lemmas.Int.{to_z-of_z}
 use Rattle.pq_base.specs.SignedWord.{IsLetter}
 use Rattle.fp_rows.specs.Row.{PrimeRow}
-use Rattle.pq_base.proofs.LetterLaws.{IsLetter-get_or}
+use Rattle.pq_base.proofs.words.LetterLaws.{IsLetter-get_or}
 use Rattle.class_one.proofs.RowValues.{length-sums_mod}
 use Rattle.class_one.proofs.ExponentLetters.{sums_more}
 use Rattle.class_one.proofs.exponents.exponent_sums.Goals as goal

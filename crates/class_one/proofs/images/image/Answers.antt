@@ -1,5 +1,6 @@
-use Rattle.std.proofs.Common.{◌+◌, ◌≤◌, take, ◌∙◌, rules, arith}
+use Rattle.std.proofs.Common.{◌+◌, ◌≤◌, suc, take, ◌∙◌, rules, arith}
 use Rattle.std.proofs.lemmas.Result.{IfOk-weaker}
+use Rattle.pq_base.specs.Limits.{max_names}
 use Rattle.pq_base.specs.ClassOne.{left_count}
 use Rattle.class_one.proofs.ImageSteps.{left_count-take_le}
 use Rattle.class_one.proofs.ReadImages.{IsPivot-flagged, width-flagged, image-flagged, image-left}
@@ -17,14 +18,14 @@ pub overflow_cast-left_count : goal.overflow_cast-left_count
 overflow_cast-left_count c =
     let few : left_count (take c.args.i c.args.pivots.now) ≤ c.args.i = left_count-take_le c.args.pivots.now c.args.i (omega (arith, c.requires.place)) in
     let count = c.left_count.ensures in
-    let less : c.left_count.result ≤ 32 = omega (arith, c.requires.limit, c.requires.place) in
+    let less : c.left_count.result ≤ max_names = omega (arith, c.requires.limit, c.requires.place) in
     search rules
 
 pub overflow_add-left_count : goal.overflow_add-left_count
 overflow_add-left_count c =
     let few : left_count (take c.args.i c.args.pivots.now) ≤ c.args.i = left_count-take_le c.args.pivots.now c.args.i (omega (arith, c.requires.place)) in
     let count = c.left_count.ensures in
-    let less : c.left_count.result + 1 ≤ 33 = omega (arith, c.requires.limit, c.requires.place) in
+    let less : c.left_count.result + 1 ≤ suc max_names = omega (arith, c.requires.limit, c.requires.place) in
     search rules
 
 pub returns-then-pivots-i : goal.returns-then-pivots-i

@@ -1,4 +1,5 @@
 use Rattle.std.proofs.Common.{◌≡◌, ◌+◌, ◌≤◌, ℕ, suc, take, ap, sym, ◌∙◌, add-one, rules, arith}
+use Rattle.pq_base.specs.Limits.{max_names}
 use Rattle.pq_base.specs.ClassOne.{left_count}
 use Rattle.class_one.proofs.ImageSteps.{left_count-take_le, left_count-take_pivot, left_count-take_left}
 use Rattle.class_one.proofs.images.left_count.Goals as goal
@@ -10,7 +11,7 @@ overflow_add-count c =
     let so_far : c.loop-pivot.count ≡ left_count (take i c.args.pivots.now) = c.loop-pivot.invariant in
     let few : left_count (take i c.args.pivots.now) ≤ i = left_count-take_le c.args.pivots.now i (omega (arith, c.loop-pivot-test.true)) in
     let limit = c.requires in
-    let less : c.loop-pivot.count + 1 ≤ 33 = omega (arith, c.loop-pivot-test.true) in
+    let less : c.loop-pivot.count + 1 ≤ suc max_names = omega (arith, c.loop-pivot-test.true) in
     search rules
 
 pub loop-pivot-preserved : goal.loop-pivot-preserved

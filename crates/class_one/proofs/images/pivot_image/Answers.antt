@@ -1,4 +1,5 @@
 use Rattle.std.proofs.Common.{◌≡◌, ◌+◌, ◌-◌, ◌%◌, ◌<◌, ◌≤◌, ℕ, List, [], ◌∷◌, ◌++◌, get_or, take, suc, ap, ap₂, sym, ◌∙◌, subst, add-one, rules, arith}
+use Rattle.pq_base.specs.Limits.{max_names}
 use Rattle.pq_base.specs.ClassOne.{left_count}
 use Rattle.pc_presentation.specs.declared.syllable.Syllable.{Syllable}
 use Rattle.pc_presentation.specs.Syllable.{syllables_of}
@@ -12,7 +13,7 @@ overflow_add-generator c =
     let so_far = c.loop-i.invariant.0 in
     let few : left_count (take i c.args.pivots.now) ≤ i = left_count-take_le c.args.pivots.now i (omega (arith, c.loop-i-test.true)) in
     let limit = c.requires.limit in
-    let less : c.loop-i.generator + 1 ≤ 33 = omega (arith, c.loop-i-test.true) in
+    let less : c.loop-i.generator + 1 ≤ suc max_names = omega (arith, c.loop-i-test.true) in
     search rules
 
 pub loop-i-preserved : goal.loop-i-preserved

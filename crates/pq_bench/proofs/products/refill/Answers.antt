@@ -1,6 +1,6 @@
 use Rattle.std.proofs.Common.{◌<◌, ◌+◌, ◌-◌, sym, subst, arith}
 use Rattle.pc_presentation.specs.Tailed.{Element, IsElement}
-use Rattle.pc_presentation.proofs.ElementConditions.{set-element}
+use Rattle.pc_presentation.proofs.quotients.ElementConditions.{set-element}
 use Rattle.pq_bench.proofs.products.refill.Goals as goal
 
 pub loop-i-preserved : goal.loop-i-preserved

@@ -1,27 +1,30 @@
 -- Each refusal is told by its own line and status.
-use Rattle.pq_run.proofs.RefusalEnds.{ends_as, ends_by}
+use Rattle.std.proofs.Common.{refl}
+use Rattle.pq_run.specs.declared.refusal.Refusal.TheVariants.{InputTooLong}
+use Rattle.pq_run.proofs.RefusalEnds.{ends_as, ends_by, ends_told}
 use Rattle.pq_run.proofs.refusal.refuse.Goals as goal
 
 pub returns-in-Words-clause-ends : goal.returns-in-Words-clause-ends
-returns-in-Words-clause-ends g c = ends_as _ _ _ _ _ _ _ c.in-Words.is c.refuse_by.ensures.status c.refuse_by.ensures.line
+returns-in-Words-clause-ends g c = ends_as _ _ _ _ c.in-Words.is c.refuse_by.ensures.status c.refuse_by.ensures.line
 
 pub returns-in-UnbuiltCommand-clause-ends : goal.returns-in-UnbuiltCommand-clause-ends
-returns-in-UnbuiltCommand-clause-ends g c = ends_as _ _ _ _ _ _ _ c.in-UnbuiltCommand.is c.refuse_by-in-UnbuiltCommand.ensures.status c.refuse_by-in-UnbuiltCommand.ensures.line
+returns-in-UnbuiltCommand-clause-ends g c = ends_as _ _ _ _ c.in-UnbuiltCommand.is c.refuse_by-in-UnbuiltCommand.ensures.status c.refuse_by-in-UnbuiltCommand.ensures.line
 
 pub returns-in-UnbuiltClass-clause-ends : goal.returns-in-UnbuiltClass-clause-ends
-returns-in-UnbuiltClass-clause-ends g c = ends_as _ _ _ _ _ _ _ c.in-UnbuiltClass.is c.refuse_by-in-UnbuiltClass.ensures.status c.refuse_by-in-UnbuiltClass.ensures.line
+returns-in-UnbuiltClass-clause-ends g c = ends_as _ _ _ _ c.in-UnbuiltClass.is c.refuse_by-in-UnbuiltClass.ensures.status c.refuse_by-in-UnbuiltClass.ensures.line
 
 pub returns-in-UnbuiltEndos-clause-ends : goal.returns-in-UnbuiltEndos-clause-ends
-returns-in-UnbuiltEndos-clause-ends g c = ends_as _ _ _ _ _ _ _ c.in-UnbuiltEndos.is c.refuse_by-in-UnbuiltEndos.ensures.status c.refuse_by-in-UnbuiltEndos.ensures.line
+returns-in-UnbuiltEndos-clause-ends g c = ends_as _ _ _ _ c.in-UnbuiltEndos.is c.refuse_by-in-UnbuiltEndos.ensures.status c.refuse_by-in-UnbuiltEndos.ensures.line
 
 pub returns-in-ReadFault-clause-ends : goal.returns-in-ReadFault-clause-ends
-returns-in-ReadFault-clause-ends g c = ends_as _ _ _ _ _ _ _ c.in-ReadFault.is c.refuse_by-in-ReadFault.ensures.status c.refuse_by-in-ReadFault.ensures.line
+returns-in-ReadFault-clause-ends g c = ends_as _ _ _ _ c.in-ReadFault.is c.refuse_by-in-ReadFault.ensures.status c.refuse_by-in-ReadFault.ensures.line
 
 pub returns-in-InputTooLong-clause-ends : goal.returns-in-InputTooLong-clause-ends
-returns-in-InputTooLong-clause-ends g c = ends_as _ _ _ _ _ _ _ c.in-InputTooLong.is c.refuse_by-in-InputTooLong.ensures.status c.refuse_by-in-InputTooLong.ensures.line
+returns-in-InputTooLong-clause-ends g c =
+    ends_by _ (InputTooLong c.in-InputTooLong.input) _ _ c.in-InputTooLong.is (ends_told (InputTooLong c.in-InputTooLong.input) _ _ _ _ refl c.too_long_line.ensures c.refuse_by-in-InputTooLong.ensures.status c.refuse_by-in-InputTooLong.ensures.line)
 
 pub returns-in-NoMemory-clause-ends : goal.returns-in-NoMemory-clause-ends
-returns-in-NoMemory-clause-ends g c = ends_as _ _ _ _ _ _ _ c.in-NoMemory.is c.refuse_by-in-NoMemory.ensures.status c.refuse_by-in-NoMemory.ensures.line
+returns-in-NoMemory-clause-ends g c = ends_as _ _ _ _ c.in-NoMemory.is c.refuse_by-in-NoMemory.ensures.status c.refuse_by-in-NoMemory.ensures.line
 
 pub returns-in-Text-clause-ends : goal.returns-in-Text-clause-ends
-returns-in-Text-clause-ends g c = ends_by _ _ _ _ _ _ _ c.in-Text.is c.refuse_text.ensures.ends
+returns-in-Text-clause-ends g c = ends_by _ _ _ _ c.in-Text.is c.refuse_text.ensures.ends

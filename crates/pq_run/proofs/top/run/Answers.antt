@@ -1,25 +1,35 @@
 -- Each clause follows from how the command ends.
 use Rattle.pq_run.proofs.WordsEnds.{bad_words-ends, command-ends, class-ends}
-use Rattle.pq_run.proofs.FirstClassEnds.{too_long-ends, bad_text-ends, endos-ends, complete-ends}
+use Rattle.pq_run.proofs.InputEnds.{too_long-ends, bad_text-ends, endos-ends, complete-ends}
+use Rattle.pq_run.proofs.RefusalEnds.{done-ends, write_fault-ends, refused-ends}
 use Rattle.pq_run.proofs.top.run.Goals as goal
 
+pub returns-clause-done : goal.returns-clause-done
+returns-clause-done g c = done-ends _ _ _ _ c.carry_out.ensures.ends
+
+pub returns-clause-write_fault : goal.returns-clause-write_fault
+returns-clause-write_fault g c = write_fault-ends _ _ _ _ c.carry_out.ensures.ends
+
+pub returns-clause-refused : goal.returns-clause-refused
+returns-clause-refused g c = refused-ends _ _ _ _ c.carry_out.ensures.ends
+
 pub returns-clause-bad_words : goal.returns-clause-bad_words
-returns-clause-bad_words g c = bad_words-ends _ _ _ c.carry_out.ensures.ends
+returns-clause-bad_words g c = bad_words-ends _ _ _ _ c.carry_out.ensures.ends
 
 pub returns-clause-command : goal.returns-clause-command
-returns-clause-command g c = command-ends _ _ _ c.carry_out.ensures.ends
+returns-clause-command g c = command-ends _ _ _ _ c.carry_out.ensures.ends
 
 pub returns-clause-class : goal.returns-clause-class
-returns-clause-class g c = class-ends _ _ _ c.carry_out.ensures.ends
+returns-clause-class g c = class-ends _ _ _ _ c.carry_out.ensures.ends
 
 pub returns-clause-too_long : goal.returns-clause-too_long
-returns-clause-too_long g c = too_long-ends _ _ _ _ _ _ _ _ _ _ c.carry_out.ensures.ends
+returns-clause-too_long g c = too_long-ends _ _ _ _ c.carry_out.ensures.ends
 
 pub returns-clause-bad_text : goal.returns-clause-bad_text
-returns-clause-bad_text g c = bad_text-ends _ _ _ _ _ _ _ _ _ _ c.carry_out.ensures.ends
+returns-clause-bad_text g c = bad_text-ends _ _ _ _ c.carry_out.ensures.ends
 
 pub returns-clause-endos : goal.returns-clause-endos
-returns-clause-endos g c = endos-ends _ _ _ _ _ _ _ _ _ _ c.carry_out.ensures.ends
+returns-clause-endos g c = endos-ends _ _ _ _ c.carry_out.ensures.ends
 
 pub returns-clause-complete : goal.returns-clause-complete
-returns-clause-complete g c = complete-ends _ _ _ _ _ _ _ _ _ _ c.carry_out.ensures.ends
+returns-clause-complete g c = complete-ends _ _ _ _ c.carry_out.ensures.ends

@@ -1,0 +1,8 @@
+-- The lines of an answer's text: which follows which, and how each is read.
+pub mod AnswerLines
+pub mod LineLeads
+pub mod LineTexts
+pub mod NextLines
+pub mod ReadLines
+pub mod SourceLines
+pub mod BadLines

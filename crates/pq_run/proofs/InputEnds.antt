@@ -1,0 +1,153 @@
+-- How a command ends that reads an input, where the source tells it. The input is too long, or no presentation, or one with
+-- endomorphisms, or answered, and at most one of these; so it decides the end, unless a device fails or memory is wanting.
+use Rattle.std.proofs.Common.{◌≡◌, ◌⊎◌, ℕ, List, Option, Some, None, IfSome, inl, inr, refl, ap, ◌∙◌, subst}
+use Rattle.pq_base.specs.declared.status.Status.{Status}
+use Rattle.pq_base.specs.declared.status.Status.TheVariants as status
+use Rattle.pq_base.specs.LPresentation.{LPresentation}
+use Rattle.lpres_reader.specs.declared.fault.TextFault.{TextFault}
+use Rattle.lpres_reader.specs.Stops.{kind_of}
+use Rattle.lpres_reader.proofs.faults.ReaderLaws.{each_text_reads_or_fails}
+use Rattle.pq_io.specs.Faults.{Rose}
+use Rattle.pq_run.specs.declared.command.Command.{Command}
+use Rattle.pq_run.specs.declared.input.Input.TheVariants.{Presentation}
+use Rattle.pq_run.specs.declared.refusal.Refusal.{Refusal}
+use Rattle.pq_run.specs.declared.refusal.Refusal.TheVariants.{Words, UnbuiltCommand, UnbuiltClass, UnbuiltEndos, ReadFault, InputTooLong, Text, NoMemory}
+use Rattle.pq_run.specs.Command.{Asks}
+use Rattle.pq_run.specs.Input.{IsAbove, IsWithin}
+use Rattle.pq_run.specs.Texts.{IsReadable, HasEndos, HasNoEndos, HasFault}
+use Rattle.pq_run.specs.Built.{IsBuilt, IsUnbuilt, HasUnbuiltClass, IsTooLong, IsGiven, IsBadText, HasUnbuiltEndos, IsAnswered}
+use Rattle.pq_run.specs.Refusals.{refusal_status}
+use Rattle.pq_run.specs.Streams.{Reading, Writing}
+use Rattle.pq_run.specs.Cause.{IsCause}
+use Rattle.pq_run.specs.Ends.{Ends, IsDecided}
+use Rattle.pq_run.specs.Ends.Ends.{done, cut, refused}
+use Rattle.pq_run.proofs.Commands.{Asks-words, Asks-weaker, Asks-apart, unbuilt-not_built, unbuilt_class-not_built, too_long-not_given}
+
+-- a text with a first fault is no presentation
+HasFault-unreadable : (bytes : List ℕ) (fault : TextFault) → HasFault fault bytes → ¬ IsReadable bytes
+HasFault-unreadable bytes fault has reads = (each_text_reads_or_fails bytes).not_both reads.0 fault.line (kind_of fault.kind) reads.1 has
+
+-- a text doesn't read both with and without endomorphisms
+HasEndos-HasNoEndos : (bytes : List ℕ) → HasEndos bytes → HasNoEndos bytes → ⊥
+HasEndos-HasNoEndos bytes has none =
+    let same = (each_text_reads_or_fails bytes).one_presentation has.0 none.0 has.1 none.1 in
+    has.2 (ap (λ (L : LPresentation). L.endos) same ∙ none.2)
+
+-- the ends, each with what it says of the input and of the counts of faults
+data InputEnd (words : List (List ℕ)) (bytes : List ℕ) (r : Reading) (w : Writing) (end : Status) : Type 0 where
+  whole : end ≡ status.Done → Asks (IsAnswered bytes) words → InputEnd words bytes r w end
+  part : end ≡ status.WriteFault → Asks (IsAnswered bytes) words → Rose w.before w.after → InputEnd words bytes r w end
+  long : end ≡ status.InputTooLong → Asks (IsTooLong bytes) words → InputEnd words bytes r w end
+  faulty : end ≡ status.BadText → Asks (IsBadText bytes) words → InputEnd words bytes r w end
+  carried : end ≡ status.NotBuilt → Asks (HasUnbuiltEndos bytes) words → InputEnd words bytes r w end
+  unread : end ≡ status.ReadFault → Rose r.before r.after → InputEnd words bytes r w end
+  wanting : end ≡ status.NoMemory → InputEnd words bytes r w end
+
+module _ (words : List (List ℕ)) (bytes : List ℕ) (r : Reading) (w : Writing) (end : Status) (is_left : r.left ≡ Some bytes) where
+  here : (P : List ℕ → Type 0) → IfSome r.left P → P bytes
+  here P holds = subst (λ (left : Option (List ℕ)). IfSome left P) is_left holds
+
+  refused_end : (refusal : Refusal) → Asks IsBuilt words → IsCause words r refusal → end ≡ refusal_status refusal → InputEnd words bytes r w end
+  refused_end Words ask cause is = absurd (cause (Asks-words IsBuilt words ask))
+  refused_end UnbuiltCommand ask cause is = absurd (Asks-apart IsUnbuilt IsBuilt words unbuilt-not_built cause ask)
+  refused_end UnbuiltClass ask cause is = absurd (Asks-apart HasUnbuiltClass IsBuilt words unbuilt_class-not_built cause ask)
+  refused_end UnbuiltEndos ask cause is =
+      let has = here (λ b. IsWithin Presentation b × HasEndos b) cause.1 in
+      carried is (cause.0.0, cause.0.1, ((cause.0.2, has.0), has.1))
+  refused_end ReadFault ask cause is = unread is cause.1
+  refused_end (InputTooLong input) ask cause is = long is (cause.0.0, cause.0.1, (input, cause.0.2, here (IsAbove input) cause.1))
+  refused_end (Text fault) ask cause is =
+      let has = here (λ b. IsWithin Presentation b × HasFault fault b) cause.1 in
+      faulty is (cause.0.0, cause.0.1, ((cause.0.2, has.0), HasFault-unreadable bytes fault has.1))
+  refused_end NoMemory ask cause is = wanting is
+
+  input_end : Ends words r w end → Asks IsBuilt words → InputEnd words bytes r w end
+  input_end (done is came by) ask = whole is (here (λ b. Asks (IsAnswered b) words) came.answered)
+  input_end (cut is came by) ask = part is (here (λ b. Asks (IsAnswered b) words) came.answered) by.fault
+  input_end (refused by) ask = refused_end by.refusal ask by.cause by.is
+
+  apart : (K : Command → Type 0) → ((c : Command) → K c → IsGiven bytes c) → Asks (IsTooLong bytes) words → Asks K words → ⊥
+  apart K gives too given =
+      Asks-apart (IsTooLong bytes) (IsGiven bytes) words (too_long-not_given bytes) too (Asks-weaker K (IsGiven bytes) words gives given)
+
+  long-answered : Asks (IsTooLong bytes) words → Asks (IsAnswered bytes) words → ⊥
+  long-answered = apart (IsAnswered bytes) (λ c k. k.0)
+
+  long-bad : Asks (IsTooLong bytes) words → Asks (IsBadText bytes) words → ⊥
+  long-bad = apart (IsBadText bytes) (λ c k. k.0)
+
+  long-endos : Asks (IsTooLong bytes) words → Asks (HasUnbuiltEndos bytes) words → ⊥
+  long-endos = apart (HasUnbuiltEndos bytes) (λ c k. k.0)
+
+  bad-answered : Asks (IsBadText bytes) words → Asks (IsAnswered bytes) words → ⊥
+  bad-answered bad a = bad.2.1 (a.2.1.0, a.2.1.1)
+
+  bad-endos : Asks (IsBadText bytes) words → Asks (HasUnbuiltEndos bytes) words → ⊥
+  bad-endos bad a = bad.2.1 (a.2.1.0, a.2.1.1)
+
+  endos-answered : Asks (HasUnbuiltEndos bytes) words → Asks (IsAnswered bytes) words → ⊥
+  endos-answered has a = HasEndos-HasNoEndos bytes has.2.1 a.2.1
+
+  long_end : InputEnd words bytes r w end → Asks (IsTooLong bytes) words → IsDecided status.InputTooLong end
+  long_end (whole is a) h = absurd (long-answered h a)
+  long_end (part is a rose) h = absurd (long-answered h a)
+  long_end (long is _) h = inl is
+  long_end (faulty is bad) h = absurd (long-bad h bad)
+  long_end (carried is has) h = absurd (long-endos h has)
+  long_end (unread is rose) h = inr (inl is)
+  long_end (wanting is) h = inr (inr is)
+
+  bad_end : InputEnd words bytes r w end → Asks (IsBadText bytes) words → IsDecided status.BadText end
+  bad_end (whole is a) h = absurd (bad-answered h a)
+  bad_end (part is a rose) h = absurd (bad-answered h a)
+  bad_end (long is too) h = absurd (long-bad too h)
+  bad_end (faulty is _) h = inl is
+  bad_end (carried is has) h = absurd (bad-endos h has)
+  bad_end (unread is rose) h = inr (inl is)
+  bad_end (wanting is) h = inr (inr is)
+
+  endos_end : InputEnd words bytes r w end → Asks (HasUnbuiltEndos bytes) words → IsDecided status.NotBuilt end
+  endos_end (whole is a) h = absurd (endos-answered h a)
+  endos_end (part is a rose) h = absurd (endos-answered h a)
+  endos_end (long is too) h = absurd (long-endos too h)
+  endos_end (faulty is bad) h = absurd (bad-endos bad h)
+  endos_end (carried is _) h = inl is
+  endos_end (unread is rose) h = inr (inl is)
+  endos_end (wanting is) h = inr (inr is)
+
+  answered_end : InputEnd words bytes r w end → Asks (IsAnswered bytes) words → ¬ Rose r.before r.after → ¬ Rose w.before w.after
+      → (end ≡ status.Done) ⊎ (end ≡ status.NoMemory)
+  answered_end (whole is a) h steady firm = inl is
+  answered_end (part is a rose) h steady firm = absurd (firm rose)
+  answered_end (long is too) h steady firm = absurd (long-answered too h)
+  answered_end (faulty is bad) h steady firm = absurd (bad-answered bad h)
+  answered_end (carried is has) h steady firm = absurd (endos-answered has h)
+  answered_end (unread is rose) h steady firm = absurd (steady rose)
+  answered_end (wanting is) h steady firm = inr is
+
+module _ (words : List (List ℕ)) (r : Reading) (w : Writing) (end : Status) (ends : Ends words r w end) where
+  told : (left : Option (List ℕ)) (Q : List ℕ → Type 0) → ((bytes : List ℕ) → left ≡ Some bytes → Q bytes) → IfSome left Q
+  told None Q by = tt
+  told (Some bytes) Q by = by bytes refl
+
+  pub too_long-ends : IfSome r.left (λ bytes. Asks (IsTooLong bytes) words → IsDecided status.InputTooLong end)
+  too_long-ends = told r.left (λ bytes. Asks (IsTooLong bytes) words → IsDecided status.InputTooLong end)
+      (λ bytes is_left h. long_end words bytes r w end is_left
+      (input_end words bytes r w end is_left ends (Asks-weaker (IsTooLong bytes) IsBuilt words (λ c k. k.1.0) h)) h)
+
+  pub bad_text-ends : IfSome r.left (λ bytes. Asks (IsBadText bytes) words → IsDecided status.BadText end)
+  bad_text-ends = told r.left (λ bytes. Asks (IsBadText bytes) words → IsDecided status.BadText end)
+      (λ bytes is_left h. bad_end words bytes r w end is_left
+      (input_end words bytes r w end is_left ends (Asks-weaker (IsBadText bytes) IsBuilt words (λ c k. k.0.0.0) h)) h)
+
+  pub endos-ends : IfSome r.left (λ bytes. Asks (HasUnbuiltEndos bytes) words → IsDecided status.NotBuilt end)
+  endos-ends = told r.left (λ bytes. Asks (HasUnbuiltEndos bytes) words → IsDecided status.NotBuilt end)
+      (λ bytes is_left h. endos_end words bytes r w end is_left
+      (input_end words bytes r w end is_left ends (Asks-weaker (HasUnbuiltEndos bytes) IsBuilt words (λ c k. k.0.0.0) h)) h)
+
+  pub complete-ends : IfSome r.left
+      (λ bytes. Asks (IsAnswered bytes) words → ¬ Rose r.before r.after → ¬ Rose w.before w.after → (end ≡ status.Done) ⊎ (end ≡ status.NoMemory))
+  complete-ends = told r.left
+      (λ bytes. Asks (IsAnswered bytes) words → ¬ Rose r.before r.after → ¬ Rose w.before w.after → (end ≡ status.Done) ⊎ (end ≡ status.NoMemory))
+      (λ bytes is_left h. answered_end words bytes r w end is_left
+      (input_end words bytes r w end is_left ends (Asks-weaker (IsAnswered bytes) IsBuilt words (λ c k. k.0.0.0) h)) h)

@@ -1,0 +1,5 @@
+use Rattle.pc_presentation.specs.Tailed.{IsElement}
+use Rattle.worked_rows.proofs.element_calls.element.Given as goal
+
+abbrev pub invariant-loop-s : goal.invariant-loop-s
+invariant-loop-s l = IsElement l.pcp l.at

@@ -1,0 +1,92 @@
+//! Texts of answers. `read` reads the text of the case: the answer is that text again, as it is written of what was read
+//! and of a copy, with the JSON form, or the line of its first fault. `with OLD => NEW` reads the text with the first OLD
+//! in it replaced by NEW.
+
+use crate::cases::Cases;
+use crate::text::{Text, show, unescaped};
+use answer_text::{AnswerFault, json, read_answer, text};
+use anyhow::{Result, bail};
+use pc_presentation::Answer;
+use std::alloc::Global;
+
+#[derive(Drop)]
+pub(crate) struct AnswerCases {
+    alloc: Global,
+    text: Text,
+}
+
+impl Cases for AnswerCases {
+    fn new(alloc: Global) -> AnswerCases {
+        AnswerCases {
+            alloc,
+            text: Text::new(alloc),
+        }
+    }
+
+    fn act(&mut self, verb: &str, rest: &str, out: &mut String) -> Result<()> {
+        if self.text.add(verb, rest)? {
+            return Ok(());
+        }
+        let text = match verb {
+            "read" => Vec::from_slice(self.alloc, self.text.bytes())?,
+            "with" => replaced(self.alloc, self.text.bytes(), rest)?,
+            _ => bail!("no such verb"),
+        };
+        show_read(self.alloc, &text, out)
+    }
+}
+
+/// A text in which the first part that stands before `=>` is replaced by what stands behind it.
+fn replaced(alloc: Global, text: &[u8], rest: &str) -> Result<Vec<u8>> {
+    let Some((old, new)) = rest.split_once(" =>") else {
+        bail!("without =>");
+    };
+    let old = unescaped(alloc, old)?;
+    let new = unescaped(alloc, new.strip_prefix(' ').unwrap_or(new))?;
+    let Some(place) = place_of(text, &old) else {
+        bail!("no such part");
+    };
+    let (before, behind) = text.split_at(place.min(text.len()));
+    let mut changed = Vec::from_slice(alloc, before)?;
+    changed.extend_from_slice(&new)?;
+    if let Some(rest) = behind.strip_prefix(old.as_slice()) {
+        changed.extend_from_slice(rest)?;
+    }
+    Ok(changed)
+}
+
+/// Where a part of a text begins first.
+fn place_of(text: &[u8], part: &[u8]) -> Option<usize> {
+    (0..text.len()).find(|place| text[*place..].starts_with(part))
+}
+
+fn show_read(alloc: Global, bytes: &[u8], out: &mut String) -> Result<()> {
+    match read_short(alloc, bytes)? {
+        Ok(answer) => show_answer(alloc, &answer, out),
+        Err(AnswerFault::Line(line)) => {
+            writeln!(out, "    line {line}")?;
+            Ok(())
+        }
+        Err(AnswerFault::NoMemory) => bail!("no memory"),
+    }
+}
+
+/// What a text that isn't too long reads as.
+pub(crate) fn read_short(alloc: Global, bytes: &[u8]) -> Result<Result<Answer, AnswerFault>> {
+    if bytes.len() > 1_000_000 {
+        bail!("too long");
+    }
+    Ok(read_answer(alloc, bytes))
+}
+
+/// Writes an answer as text, and as JSON.
+pub(crate) fn show_answer(alloc: Global, answer: &Answer, out: &mut String) -> Result<()> {
+    let written = text(alloc, answer)?;
+    show(out, &written)?;
+    show(out, &json(alloc, answer)?)?;
+    let copy = answer.duplicate()?;
+    if text(alloc, &copy)?.as_slice() != written.as_slice() {
+        writeln!(out, "    copied otherwise")?;
+    }
+    Ok(())
+}

@@ -1,0 +1,152 @@
+//! Texts that lines of a case put together, and texts that are shown.
+
+use anyhow::{Result, bail};
+use std::alloc::Global;
+use std::fmt::Display;
+use std::str::FromStr;
+
+/// The most bytes of a text that are shown.
+const SHOWN: usize = 4_000;
+
+/// A text in the making.
+#[derive(Drop)]
+pub(crate) struct Text {
+    bytes: Vec<u8>,
+}
+
+impl Text {
+    /// The empty text.
+    pub(crate) fn new(alloc: Global) -> Text {
+        Text {
+            bytes: Vec::new(alloc),
+        }
+    }
+
+    /// The bytes so far.
+    pub(crate) fn bytes(&self) -> &[u8] {
+        &self.bytes
+    }
+
+    /// Adds what a line says, and says whether it is such a line: `> TEXT` adds the text and a newline, `+ TEXT` the text
+    /// alone, and `* N TEXT` the text N times. In each text `\n`, `\r`, `\t`, `\s` and `\\` stand for a newline, a return,
+    /// a tab, a blank and a backslash.
+    pub(crate) fn add(&mut self, verb: &str, rest: &str) -> Result<bool> {
+        match verb {
+            ">" => {
+                self.add_times(1, rest)?;
+                self.bytes.push(b'\n')?;
+            }
+            "+" => self.add_times(1, rest)?,
+            "*" => match rest.split_once(' ') {
+                Some((times, text)) => self.add_times(times.parse::<u32>()?, text)?,
+                None => bail!("no text"),
+            },
+            _ => return Ok(false),
+        }
+        Ok(true)
+    }
+
+    fn add_times(&mut self, times: u32, text: &str) -> Result<()> {
+        let text = unescaped(*self.bytes.allocator(), text)?;
+        for _ in 0..times {
+            self.bytes.extend_from_slice(&text)?;
+        }
+        Ok(())
+    }
+}
+
+/// A text with its escapes replaced.
+pub(crate) fn unescaped(alloc: Global, text: &str) -> Result<Vec<u8>> {
+    let mut bytes = Vec::new(alloc);
+    let mut is_behind = false;
+    for byte in text.as_bytes() {
+        if is_behind {
+            bytes.push(escaped_byte(*byte)?)?;
+            is_behind = false;
+        } else if *byte == b'\\' {
+            is_behind = true;
+        } else {
+            bytes.push(*byte)?;
+        }
+    }
+    if is_behind {
+        bail!("a backslash at the end");
+    }
+    Ok(bytes)
+}
+
+/// What a byte behind a backslash stands for.
+fn escaped_byte(byte: u8) -> Result<u8> {
+    match byte {
+        b'n' => Ok(b'\n'),
+        b'r' => Ok(b'\r'),
+        b't' => Ok(b'\t'),
+        b's' => Ok(b' '),
+        b'\\' => Ok(b'\\'),
+        _ => bail!("no such escape"),
+    }
+}
+
+/// Writes bytes line by line, each behind four blanks, and says how many there are where they are many.
+pub(crate) fn show(out: &mut String, bytes: &[u8]) -> Result<()> {
+    if bytes.len() > SHOWN {
+        let length = bytes.len();
+        writeln!(out, "    {length} bytes")?;
+        return Ok(());
+    }
+    let mut at_start = true;
+    for byte in bytes {
+        if at_start {
+            out.push_str("    ")?;
+        }
+        show_byte(out, *byte)?;
+        at_start = *byte == b'\n';
+    }
+    if !at_start {
+        out.push_str(" (no newline)\n")?;
+    }
+    Ok(())
+}
+
+fn show_byte(out: &mut String, byte: u8) -> Result<()> {
+    if byte == b'\n' || (b' '..=b'~').contains(&byte) {
+        out.push(byte as char)?;
+    } else {
+        write!(out, "<byte {byte}>")?;
+    }
+    Ok(())
+}
+
+/// Writes numbers with blanks between them, and `none` where there are none.
+pub(crate) fn show_numbers<T: Display>(out: &mut String, numbers: &[T]) -> Result<()> {
+    if numbers.is_empty() {
+        out.push_str(" none")?;
+    }
+    for number in numbers {
+        write!(out, " {number}")?;
+    }
+    Ok(())
+}
+
+/// The numbers that a text has between its blanks.
+pub(crate) fn numbers<T: FromStr + Drop>(alloc: Global, text: &str) -> Result<Vec<T>>
+where
+    T::Err: Drop,
+{
+    let mut numbers = Vec::new(alloc);
+    for word in text.split_whitespace() {
+        match word.parse::<T>() {
+            Ok(number) => numbers.push(number)?,
+            Err(_) => bail!("no number: {word}"),
+        }
+    }
+    Ok(numbers)
+}
+
+/// What stands before and behind a sign.
+pub(crate) fn halves<'a>(text: &'a str, sign: &str) -> Result<(&'a str, &'a str)> {
+    match text.split_once(sign) {
+        Some((before, behind)) => Ok((before.trim(), behind.trim())),
+        None => bail!("without {sign}"),
+    }
+}

@@ -4,3 +4,4 @@ pub mod NamedRows
 pub mod ClassSteps
 pub mod Quotients
 pub mod NamedQuotients
+pub mod LoggedRuns

@@ -1,5 +1,5 @@
 -- Named relators are words over the generators, and the relators of the presentation that has them alone.
-use Rattle.std.proofs.Common.{◌≡◌, ℕ, ◌<◌, ℤ, List, [], ◌∷◌, get_or, length, map, ap, sym, ◌∙◌, subst, arith}
+use Rattle.std.proofs.Common.{ℕ, ◌<◌, ℤ, List, [], ◌∷◌, get_or, length, map, ap, sym, ◌∙◌, subst, arith}
 use Rattle.std.specs.List.{All, Contains}
 use Rattle.std.proofs.lemmas.List.{length-map, get_or-map}
 use Rattle.pq_base.specs.LPresentation.{LPresentation, IsLPresentation, IsRelator, AreWords}

@@ -1,19 +1,22 @@
 -- Without endomorphisms the relators of a presentation are those that all numbers name; so its named part has the same quotients,
 -- and the same refusals.
-use Rattle.std.proofs.Common.{◌≡◌, ℕ, zero, suc, ◌+◌, ◌-◌, ◌<◌, ◌≤◌, ℤ, List, [], ◌∷◌, ◌++◌, get_or, length, map, inl, inr, refl, ap, sym, ◌∙◌, subst, arith}
-use Rattle.std.specs.List.{All, Contains}
+use Rattle.std.proofs.Common.{◌≡◌, ℕ, zero, suc, ◌-◌, ◌<◌, ℤ, List, [], ◌∷◌, get_or, length, map, inl, inr, refl, sym, subst, arith}
 use Rattle.std.proofs.lemmas.List.Elements.{All-weaker}
 use Rattle.pq_base.specs.LPresentation.{LPresentation, IsRelator, AreEndoNumbers, along}
 use Rattle.pq_base.specs.LPresentation.IsRelator.{fixed_relator, iterated_relator}
 use Rattle.pq_base.specs.Answer.{Answer}
 use Rattle.pq_base.specs.Canonical.{numbers_from}
 use Rattle.pq_base.specs.Laws.{HaveSameQuotients}
-use Rattle.pq_base.proofs.ListMembers.{In, IsMade, In-append_left, In-append_right, In-append_cases, In-get_or, In-map, In-map_cases, In-numbers, numbers-range, Contains-from_In}
+use Rattle.pq_base.proofs.ListMembers.{In, In-append_left, In-append_right, In-append_cases, In-get_or, In-map, In-map_cases, In-numbers, numbers-range, Contains-from_In}
 use Rattle.pq_base.proofs.SameRelators.{same-relators_turned, same_relators_give_same_quotients}
 use Rattle.tower.specs.declared.relator.Relator.{Relator}
 use Rattle.tower.specs.declared.relator.Relator.TheVariants.{Fixed, Iterated}
-use Rattle.tower.specs.NamedParts.{named_word, IsNamed, NamesAll, all_named, named_part}
+use Rattle.tower.specs.NamedParts.{named_word, IsNamed, NamesAll, iterated_at, all_named, named_part}
 use Rattle.tower.specs.Answers.{IsQuotient, IsTooLarge}
+use Rattle.derivation_log.specs.declared.source.Run.{Run}
+use Rattle.tower.specs.declared.refusal.TowerRefusal.{TowerRefusal}
+use Rattle.tower.specs.declared.refusal.TowerRefusal.TheVariants.{TooLarge, NoMemory}
+use Rattle.tower.specs.Refusals.{IsRefusalOf}
 use Rattle.tower.specs.QuotientLaws.{SameRelatorsGiveSameAnswers, AllNumbersNameAll, NamedPartsHaveTheRelators, NamedPartsHaveTheAnswers}
 use Rattle.tower.proofs.NamedLaws.{named-relator, named-all}
 
@@ -55,10 +58,6 @@ named_parts_have_the_relators L rs none all = record {
     named-all L rs (IsRelator L) (All-weaker (IsNamed L) (λ (s : Relator). IsRelator L (named_word L s)) (named-is L) rs all.only) r,
   );
 }
-
--- all numbers
-abbrev iterated_at : ℕ → Relator
-iterated_at i = Iterated i []
 
 named-every : (L : LPresentation) (r : Relator) → IsNamed L r → In r (all_named L)
 named-every L (Fixed i) h =
@@ -125,3 +124,13 @@ same_relators_give_same_answers L M same =
 pub named_parts_have_the_answers : NamedPartsHaveTheAnswers
 named_parts_have_the_answers L rs none all =
     same_relators_give_same_answers L (named_part L rs) (named_parts_have_the_relators L rs none all)
+
+-- the quotient of the named part with all numbers is that of the presentation, and so is a refusal
+pub quotient-of_all : (L : LPresentation) (p c : ℕ) (A : Answer) → L.endos ≡ [] → IsQuotient (named_part L (all_named L)) p c A → IsQuotient L p c A
+quotient-of_all L p c A none is = ((named_parts_have_the_answers L (all_named L) none (all_numbers_name_all L)).quotients p c A).1 is
+
+pub refusal-of_all : (L : LPresentation) (p c : ℕ) (run : Run) (e : TowerRefusal) → L.endos ≡ [] → IsRefusalOf (named_part L (all_named L)) p c run e
+    → IsRefusalOf L p c run e
+refusal-of_all L p c run (TooLarge part k rank) none is =
+    (is.0, ((named_parts_have_the_answers L (all_named L) none (all_numbers_name_all L)).refusals p c k rank).1 is.1)
+refusal-of_all L p c run NoMemory none is = tt

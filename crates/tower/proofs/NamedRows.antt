@@ -1,6 +1,6 @@
 -- The row of a relator's word is the row of the relator as a source.
-use Rattle.std.proofs.Common.{◌≡◌, ◌≤◌, ℕ, List, [], ◌∷◌, length, sym, subst}
-use Rattle.pq_base.specs.LPresentation.{LPresentation, AreEndoNumbers}
+use Rattle.std.proofs.Common.{ℕ, List, [], ◌∷◌}
+use Rattle.pq_base.specs.LPresentation.{LPresentation}
 use Rattle.pc_presentation.specs.Collection.{State}
 use Rattle.p_cover.specs.Covers.{CoverOf}
 use Rattle.p_cover.specs.ImageValues.{IsRowOfWord}

@@ -36,8 +36,13 @@ pub record NamesAll (L : LPresentation) (relators : List Relator) : Type 0 where
   pub only : All (IsNamed L) relators
   pub every : (r : Relator) → IsNamed L r → Contains relators r
 
+-- an iterated relator along no endomorphism
+abbrev pub iterated_at : ℕ → Relator
+iterated_at i = Iterated i []
+
+-- all of them: the fixed relators, then the iterated ones
 abbrev pub all_named : LPresentation → List Relator
-all_named L = map Fixed (numbers_from 1 (length L.fixed)) ++ map (λ (i : ℕ). Iterated i []) (numbers_from 1 (length L.iterated))
+all_named L = map Fixed (numbers_from 1 (length L.fixed)) ++ map iterated_at (numbers_from 1 (length L.iterated))
 
 -- the generators with the named relators alone
 abbrev pub named_part : LPresentation → List Relator → LPresentation

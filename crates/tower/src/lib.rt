@@ -10,7 +10,9 @@ pub mod relator;
 mod relators;
 mod rows;
 pub mod runs;
+pub mod whole;
 
 pub use refusal::TowerRefusal;
 pub use relator::Relator;
 pub use runs::finite;
+pub use whole::largest;

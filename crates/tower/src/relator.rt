@@ -1,8 +1,10 @@
 //! Relators by number.
 
-ghost use Rattle.std.specs.Prelude.{◌≡◌, map, IfOk};
+ghost use Rattle.std.specs.Prelude.{◌≡◌, ◌++◌, map, IfOk, OnOk};
+ghost use Rattle.pq_base.specs.Canonical.{numbers_from};
 ghost use Rattle.derivation_log.specs.RowSources.{source_word};
-ghost use Rattle.tower.specs.NamedParts.{IsNamedSource, recorded_source};
+ghost use Rattle.tower.specs.declared.relator.Relator.TheVariants.{Fixed};
+ghost use Rattle.tower.specs.NamedParts.{IsNamedSource, recorded_source, iterated_at, all_named};
 
 use derivation_log::RowSource;
 use free_words::Word;
@@ -43,6 +45,37 @@ pub(crate) fn sources(alloc: Global, relators: &[Relator]) -> Result<Vec<RowSour
         sources.push(relator.source(alloc)?)?;
     }
     Ok(sources)
+}
+
+/// All relators that are carried along no endomorphism: the fixed ones, then the iterated ones.
+pub(crate) fn all_relators(alloc: Global, pres: &LPres) -> Result<Vec<Relator>, NoMemory>
+    ensures { IfOk result (λ relators. relators.items ≡ all_named pres.now) }
+{
+    let _names = pres.names();
+    let mut relators = Vec::new(alloc);
+    push_fixed(&mut relators, pres.fixed().len() as u32)?;
+    push_iterated(alloc, &mut relators, pres.iterated().len() as u32)?;
+    Ok(relators)
+}
+
+/// Puts so many fixed relators at the end.
+fn push_fixed(relators: &mut Vec<Relator>, count: u32) -> Result<(), NoMemory>
+    ensures { OnOk result (relators.new.items ≡ relators.old.items ++ map Fixed (numbers_from 1 count)) }
+{
+    for i in 0..count {
+        relators.push(Relator::Fixed(i + 1))?;
+    }
+    Ok(())
+}
+
+/// Puts so many iterated relators at the end.
+fn push_iterated(alloc: Global, relators: &mut Vec<Relator>, count: u32) -> Result<(), NoMemory>
+    ensures { OnOk result (relators.new.items ≡ relators.old.items ++ map iterated_at (numbers_from 1 count)) }
+{
+    for i in 0..count {
+        relators.push(Relator::Iterated(i + 1, Path::of(alloc, &[])?))?;
+    }
+    Ok(())
 }
 
 /// The word of a relator that is carried along no endomorphism.

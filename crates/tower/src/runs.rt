@@ -1,6 +1,6 @@
 //! Towers of few relators: class after class over full covers.
 
-ghost use Rattle.std.specs.Prelude.{◌≡◌, ◌<◌, ◌≤◌, List, [], length, IfOk, IfErr};
+ghost use Rattle.std.specs.Prelude.{◌≡◌, ◌<◌, ◌≤◌, List, [], length, IfOk, IfErr, OnErr};
 ghost use Rattle.std.specs.List.{All};
 ghost use Rattle.pq_base.specs.Limits.{max_class};
 ghost use Rattle.pq_base.specs.Prime.{prime_value};
@@ -10,6 +10,7 @@ ghost use Rattle.cover_quotient.specs.Stages.{full_cover_of};
 ghost use Rattle.tower.specs.NamedParts.{IsNamed, named_part};
 ghost use Rattle.tower.specs.Answers.{IsStepFrom, IsGrown, IsQuotient};
 ghost use Rattle.tower.specs.LoggedSteps.{IsLogged};
+ghost use Rattle.tower.specs.LoggedRuns.{HoldsRun, HoldsRefused};
 ghost use Rattle.tower.specs.Refusals.{IsRefusalOf};
 
 use crate::classes::one_class;
@@ -23,8 +24,11 @@ use pc_presentation::{Answer, Collect};
 use pq_base::{NoMemory, Prime};
 use std::alloc::Global;
 
-/// The largest quotient of the group of the relators named, of p-class at most so much, in its canonical form. The log is told of
-/// the step of each class.
+/// The largest quotient of the group of the relators named, of p-class at most so much, in its canonical form. `TooLarge` comes at
+/// the first class whose largest quotient has a rank above 100, and only there.
+///
+/// The log is told of the step of each class of the run `Whole`, of which it holds none before. After `Ok` it holds one for each
+/// class up to the one asked for, or to the first that kept no tail; after a refusal it holds those that were done.
 pub fn finite<C: Collect + Drop, L: Log>(
     alloc: Global,
     pres: &LPres,
@@ -40,6 +44,10 @@ pub fn finite<C: Collect + Drop, L: Log>(
     ensures quotient { IfOk result (λ a. IsQuotient (named_part pres.now relators.now) (prime_value prime) class a) }
     ensures refusal { IfErr result (λ e. IsRefusalOf (named_part pres.now relators.now) (prime_value prime) class Whole e) }
     ensures other { KeepsTheSame (L.keeps log.old Iterated) (L.keeps log.new Iterated) }
+    ensures held { L.keeps log.old Whole []
+        → IfOk result (λ a. HoldsRun pres.now C.meaning (prime_value prime) class (L.keeps log.new Whole) a) }
+    ensures refused { L.keeps log.old Whole []
+        → IfErr result (λ e. HoldsRefused pres.now C.meaning (prime_value prime) class (L.keeps log.new Whole) e) }
 {
     let mut answer = Answer::trivial(alloc, prime, pres.names())?;
     for k in 0..class {
@@ -78,6 +86,7 @@ fn full_class<C: Collect + Drop, L: Log>(
     ensures logged { IfOk result (λ step. IsLogged pres.now C.meaning (full_cover_of answer.now)
         (L.keeps log.old Whole) (L.keeps log.new Whole) step) }
     ensures other { KeepsTheSame (L.keeps log.old Iterated) (L.keeps log.new Iterated) }
+    ensures refused { OnErr result (KeepsTheSame (L.keeps log.old Whole) (L.keeps log.new Whole)) }
 {
     let _from = (prime, k);
     let cover = full_cover(alloc, answer)?;

@@ -1,10 +1,9 @@
-use Rattle.std.proofs.Common.{◌≡◌, List, map, sym, subst}
+use Rattle.std.proofs.Common.{map, sym, subst}
 use Rattle.std.specs.List.{All}
 use Rattle.std.proofs.lemmas.List.Elements.{All-map}
 use Rattle.pc_presentation.specs.Tailed.{rowed_presentation}
 use Rattle.p_cover.specs.Covers.{cover_presentation}
 use Rattle.consistency.specs.AllOverlaps.{all_overlaps}
-use Rattle.derivation_log.specs.declared.source.RowSource.{RowSource}
 use Rattle.derivation_log.specs.declared.source.RowSource.TheVariants.{Test}
 use Rattle.tower.specs.NamedParts.{IsNamedSource, DiesIn, recorded_source}
 use Rattle.tower.proofs.TakenRows.{taken-from_none}

@@ -1,6 +1,5 @@
 use Rattle.std.proofs.Common.{◌≡◌, List, [], ◌∷◌, ◌++◌, map, ap, sym, ◌∙◌, subst, append_assoc, append-nil}
 use Rattle.std.proofs.lemmas.List.{map-append}
-use Rattle.pq_base.specs.LPresentation.{LPresentation}
 use Rattle.pc_presentation.specs.declared.overlap.Overlap.{Overlap}
 use Rattle.pc_presentation.specs.Tailed.{rowed_presentation}
 use Rattle.p_cover.specs.Covers.{cover_presentation}
@@ -8,7 +7,7 @@ use Rattle.consistency.specs.AllOverlaps.{all_overlaps}
 use Rattle.derivation_log.specs.declared.source.RowSource.{RowSource}
 use Rattle.derivation_log.specs.declared.source.RowSource.TheVariants.{Test}
 use Rattle.tower.specs.StepRows.{HaveTakenMore}
-use Rattle.tower.proofs.TakenRows.{next-overlap, taken-nothing, taken-append}
+use Rattle.tower.proofs.TakenRows.{next-overlap, taken-append}
 use Rattle.tower.proofs.rows.Rows.insert_overlaps.Goals as goal
 
 pub insert_overlap-requires-clause-overlap : goal.insert_overlap-requires-clause-overlap

@@ -7,7 +7,7 @@ use Rattle.fp_echelon.specs.Basis.{Echelon}
 use Rattle.pc_presentation.specs.Tailed.{rowed_presentation}
 use Rattle.p_cover.specs.Covers.{cover_presentation}
 use Rattle.p_cover.specs.ImageValues.{IsRowOfWord}
-use Rattle.derivation_log.specs.RowSources.{source_word, IsRowOf}
+use Rattle.derivation_log.specs.RowSources.{source_word}
 use Rattle.derivation_log.proofs.RowSources.{source_word-letters}
 use Rattle.tower.proofs.TakenRows.{over-spare, over-inserted, taken-inserted}
 use Rattle.tower.proofs.NamedRows.{named-row}

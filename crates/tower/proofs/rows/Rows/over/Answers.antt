@@ -1,6 +1,5 @@
 use Rattle.std.proofs.Common.{◌≤◌, ap, arith}
 use Rattle.pq_base.specs.Limits.{max_rank}
-use Rattle.pq_base.specs.Presentation.{Presentation}
 use Rattle.pc_presentation.specs.Pcp.{TailedPresentation}
 use Rattle.p_cover.proofs.WantMembers.{few_in_part}
 use Rattle.tower.proofs.rows.Rows.over.Goals as goal

@@ -23,3 +23,4 @@ pub mod LineLaws
 pub mod ListMembers
 pub mod words
 pub mod tables
+pub mod KilledWords

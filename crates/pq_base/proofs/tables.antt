@@ -6,3 +6,6 @@ pub mod TableQuotients
 pub mod HomomorphismValues
 pub mod UniqueOrders
 pub mod OneToOne
+pub mod NumberedGroups
+pub mod Numberings
+pub mod LevelQuotients

@@ -6,4 +6,5 @@ pub mod fitting
 pub mod qualifying
 pub mod canonical_answers
 pub mod stages
+pub mod largest_quotients
 pub mod vectors

@@ -1,17 +1,16 @@
 -- The value of an entry word under the images with their rows is the word of the row: spelled generators are generators, so
 -- the left side and the right side of the relation are left, and these differ by the row.
-use Rattle.std.proofs.Common.{◌≡◌, ℕ, zero, suc, ◌<◌, ℤ, pos, List, [], ◌∷◌, ◌++◌, get_or, length, map, ap, sym, ◌∙◌, subst, arith}
+use Rattle.std.proofs.Common.{◌≡◌, ℕ, zero, suc, ◌<◌, ℤ, pos, List, [], ◌∷◌, ◌++◌, get_or, length, ap, sym, ◌∙◌, subst, arith}
 use Rattle.std.proofs.Math.ListN.{get_or-map}
 use Rattle.pq_base.specs.SignedWord.{inv, copies, comm, sub, HasLetters}
 use Rattle.pq_base.specs.Presentation.{IsNormal, letter, normal_word, power_word, commutator_word}
 use Rattle.pq_base.specs.Joined.{Joined}
 use Rattle.pq_base.specs.Answer.{Definition, AreNormal, image_words}
 use Rattle.pq_base.specs.Answer.Definition.{image, commutator, power}
-use Rattle.pq_base.proofs.words.WordLaws.{sub-append, sub-inv, sub-sub, sub-letter}
+use Rattle.pq_base.proofs.words.WordLaws.{sub-append, sub-inv, sub-letter}
 use Rattle.pq_base.proofs.words.LetterLaws.{HasLetters-letter, HasLetters-copies, HasLetters-comm, HasLetters-normal_word, HasLetters-power_word, HasLetters-commutator_word}
 use Rattle.pq_base.proofs.words.JoinedLaws.{joined-from_equal, joined-sym, joined-trans, joined-append, joined-inv, inv-append-append-joined}
-use Rattle.pq_base.proofs.words.RangeLaws.{generators, get_or-generators, sub-generators}
-use Rattle.pq_base.proofs.words.WordGroup.{joined-sub_same}
+use Rattle.pq_base.proofs.words.SpelledBack.{spelled_words-back}
 use Rattle.pq_base.proofs.NormalLists.{normal-entry}
 use Rattle.pc_presentation.specs.Rowed.{flat, power_row, commutator_row}
 use Rattle.p_cover.specs.RowedAnswer.{RowedAnswer, IsRowedAnswer, rowed, row_at, rowed_images, tails_word}
@@ -25,17 +24,7 @@ module _ (Y : RowedAnswer) (is : IsRowedAnswer Y) where
   pub spelled-back : (w : List ℤ) → HasLetters Y.answer.presentation.rank w
       → Joined (flat (rowed Y)) (sub (sub w (spelling_words Y.answer)) (rowed_images Y)) w
   spelled-back w h =
-      let F : List (List ℤ) = map (λ (u : List ℤ). sub u (rowed_images Y)) (spelling_words Y.answer) in
-      let at_generators : (i : ℕ) → i < Y.answer.presentation.rank
-      → Joined (flat (rowed Y)) (get_or (map (λ (u : List ℤ). sub u (rowed_images Y)) (spelling_words Y.answer)) i [])
-      (get_or (generators Y.answer.presentation.rank) i []) =
-      λ i l.
-      joined-trans (joined-from_equal (flat (rowed Y)) (get_or-map (λ (u : List ℤ). sub u (rowed_images Y)) (spelling_words Y.answer) i []))
-      (joined-trans (joined-sym (spelled-with_rows Y is i l))
-      (joined-from_equal (flat (rowed Y)) (sym (get_or-generators Y.answer.presentation.rank i l)))) in
-      joined-trans (joined-from_equal (flat (rowed Y)) (sub-sub w (spelling_words Y.answer) (rowed_images Y)))
-      (joined-trans (joined-sub_same (flat (rowed Y)) Y.answer.presentation.rank F (generators Y.answer.presentation.rank) at_generators w h)
-      (joined-from_equal (flat (rowed Y)) (sub-generators Y.answer.presentation.rank w h)))
+      spelled_words-back (flat (rowed Y)) Y.answer.presentation.rank (spelling_words Y.answer) (rowed_images Y) (spelled-with_rows Y is) w h
 
   -- a right side w and the value u of the left side, which differ by a row
   quotient-row : (w u : List ℤ) (x : List ℕ) → HasLetters Y.answer.presentation.rank w

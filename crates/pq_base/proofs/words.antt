@@ -10,3 +10,4 @@ pub mod AlongLaws
 pub mod SpelledWords
 pub mod SpelledLists
 pub mod SpellingLetters
+pub mod SpelledBack

@@ -48,7 +48,7 @@ KeptTailsMayDefine = (C : CoverOf) (bs : List BasisRow) (push : State → ℕ �
 
 -- a basis of rows over all tails of the full cover of an answer which, cut at each class up to its own, is the largest quotient of
 -- that class; the span holds the rows of all overlaps and of all relators
-pub record IsStepOfLargest (L : LPresentation) (p : ℕ) (C : CoverOf) (push : State → ℕ → State) (B : Echelon) : Type 0 where
+pub record IsStepOfLargestQuotients (L : LPresentation) (p : ℕ) (C : CoverOf) (push : State → ℕ → State) (B : Echelon) : Type 0 where
   pub words : IsLPresentation L
   pub offered : IsOffered p
   pub answer : IsAnswer C.answer
@@ -64,7 +64,7 @@ pub record IsStepOfLargest (L : LPresentation) (p : ℕ) (C : CoverOf) (push : S
 -- each kept tail may define a generator: an image at class 0, and later a qualifying relation with the empty word
 abbrev pub KeptTailsOfLargestQuotientsMayDefine : Type 0
 KeptTailsOfLargestQuotientsMayDefine = (L : LPresentation) (p : ℕ) (C : CoverOf) (push : State → ℕ → State) (B : Echelon)
-    → IsStepOfLargest L p C push B → KeptMayDefine C B.rows
+    → IsStepOfLargestQuotients L p C push B → KeptMayDefine C B.rows
 
 -- the next answer is ready for the class after it
 abbrev pub NextAnswersAreReady : Type 0

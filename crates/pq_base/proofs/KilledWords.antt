@@ -1,12 +1,10 @@
 -- Elements of a group table that obey an L-presentation, and its largest quotient of class c: a word that is trivial in the quotient
 -- has a value in level c of the table, as it has value 0 in the table modulo that level.
-use Rattle.std.proofs.Common.{◌≡◌, ℕ, ◌<◌, ℤ, List, [], get_or, length, map, ap, sym, ◌∙◌, subst, arith}
-use Rattle.std.proofs.lemmas.List.{length-map}
+use Rattle.std.proofs.Common.{◌≡◌, ℕ, ℤ, List, [], length, map, sym, ◌∙◌, subst, arith}
 use Rattle.std.proofs.Math.ListN.{get_or-map}
 use Rattle.pq_base.specs.SignedWord.{sub, HasLetters}
 use Rattle.pq_base.specs.LPresentation.{LPresentation, Obeys}
 use Rattle.pq_base.specs.Table.{Table, IsGroup, InLevel, HasTableClass, value}
-use Rattle.pq_base.specs.Presentation.{normal_word}
 use Rattle.pq_base.specs.Joined.{Joined}
 use Rattle.pq_base.specs.Answer.{Answer, image_words}
 use Rattle.pq_base.specs.Largest.{FactorsOnce, IsLargest}

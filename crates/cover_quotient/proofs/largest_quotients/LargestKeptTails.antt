@@ -1,16 +1,14 @@
 -- In the full cover of an answer that is the largest quotient at each class, modulo a basis of the rows of all overlaps and relators,
 -- each kept tail may define a generator. That a tail may is decided, so it holds once it can't fail to.
-use Rattle.std.proofs.Common.{◌≡◌, ℕ, zero, suc, ◌-◌, ◌<◌, ◌≤◌, Bool, true, false, ℤ, List, length, refl, sym, subst, arith}
-use Rattle.std.proofs.lemmas.List.Elements.{All-from_get_or, All-get_or}
+use Rattle.std.proofs.Common.{◌≡◌, ℕ, zero, suc, ◌-◌, ◌≤◌, Bool, true, false, List, length, refl, sym, subst, arith}
 use Rattle.std.specs.List.{All}
 use Rattle.pq_base.specs.LPresentation.{LPresentation, Obeys}
-use Rattle.pq_base.specs.Table.{Table}
 use Rattle.pq_base.specs.Presentation.{power_word, commutator_word}
 use Rattle.pq_base.specs.Joined.{IsConsistent}
 use Rattle.pq_base.specs.Prime.{IsOffered}
 use Rattle.pq_base.specs.Answer.{Answer, Definition as Source, class_of}
 use Rattle.pq_base.specs.Answer.Definition.{image, commutator, power}
-use Rattle.pq_base.specs.Canonical.{up_to_class, IsAllowed, is_qualifying}
+use Rattle.pq_base.specs.Canonical.{is_qualifying}
 use Rattle.pq_base.specs.Largest.{IsLargest}
 use Rattle.pq_base.proofs.Restrictions.{restrictions_are_whole}
 use Rattle.pq_base.proofs.tables.LevelQuotients.{LevelQuotient, level-quotient_stands}
@@ -25,8 +23,8 @@ use Rattle.p_cover.specs.RowedAnswer.{RowedAnswer, rowed}
 use Rattle.p_cover.specs.Sources.{IsPartOf}
 use Rattle.p_cover.proofs.PartLaws.{part_of_itself}
 use Rattle.cover_quotient.specs.AnswerLaws.{IsBasisOver, HoldsOverlaps}
-use Rattle.cover_quotient.specs.Defining.{HasEmptySide, MayBeKept, MayDefine, KeptMayDefine}
-use Rattle.cover_quotient.specs.KeptTailLaws.{flat_table, image_elements, IsStepOfLargest, KeptTailsOfLargestQuotientsMayDefine}
+use Rattle.cover_quotient.specs.Defining.{HasEmptySide, MayDefine, KeptMayDefine}
+use Rattle.cover_quotient.specs.KeptTailLaws.{flat_table, image_elements, IsStepOfLargestQuotients, KeptTailsOfLargestQuotientsMayDefine}
 use Rattle.cover_quotient.specs.Levels.{IsReady}
 use Rattle.cover_quotient.specs.NextAnswer.{kept_sources, cover_modulo, eliminated}
 use Rattle.cover_quotient.proofs.fitting.FittingLaws.{full_covers_fit}
@@ -34,7 +32,7 @@ use Rattle.cover_quotient.proofs.largest_quotients.LargestFits.{largest-fits}
 use Rattle.cover_quotient.proofs.largest_quotients.LargestReady.{empty-stable, largest-ready}
 use Rattle.cover_quotient.proofs.next_answers.AnswerLaws.{next_answers_are_consistent}
 use Rattle.cover_quotient.proofs.qualifying.KeptTailLaws.{kept_images_may_define, kept_tails_may_define}
-use Rattle.cover_quotient.proofs.stages.CoverTables.{modulo-table, modulo-obeys, image_elements-below}
+use Rattle.cover_quotient.proofs.stages.CoverTables.{modulo-table, modulo-obeys}
 
 -- what may define a generator is decided
 true-stable : (b : Bool) → ¬ ¬ (b ≡ true) → b ≡ true
@@ -55,7 +53,7 @@ may_define-stable A k d h = record {
   allowed = true-stable (is_qualifying A (suc k) d) (λ fails. h (λ may. fails may.allowed));
 }
 
-module _ (L : LPresentation) (p : ℕ) (C : CoverOf) (push : State → ℕ → State) (B : Echelon) (step : IsStepOfLargest L p C push B) where
+module _ (L : LPresentation) (p : ℕ) (C : CoverOf) (push : State → ℕ → State) (B : Echelon) (step : IsStepOfLargestQuotients L p C push B) where
   abbrev A : Answer
   A = C.answer
 

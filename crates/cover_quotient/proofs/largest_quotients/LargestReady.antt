@@ -1,12 +1,12 @@
 -- An answer that is the largest quotient of the class that it shows, and cut at the class before it the largest of that class,
 -- is ready for the next class. A generator of the last weight dies in the cut answer, so in the table of normal words it lies in the
 -- level before the last. Its commutators and its power then lie in the last level, which is trivial, and so do the right sides.
-use Rattle.std.proofs.Common.{◌≡◌, ℕ, zero, suc, ◌+◌, ◌-◌, ◌<◌, ◌≤◌, ℤ, List, [], ◌∷◌, ◌++◌, get_or, length, map, take, replicate, refl, ap, ap₂, sym, ◌∙◌, subst, arith, length-append, inl, inr}
+use Rattle.std.proofs.Common.{◌≡◌, ℕ, suc, ◌+◌, ◌-◌, ◌<◌, ◌≤◌, ℤ, List, [], ◌∷◌, ◌++◌, get_or, length, map, take, replicate, refl, ap, ap₂, sym, ◌∙◌, subst, arith, length-append, inl, inr}
 use Rattle.std.proofs.lemmas.Bool.{cases_lt}
 use Rattle.std.proofs.lemmas.List.{length-replicate}
 use Rattle.pq_base.specs.SignedWord.{copies, comm, sub, HasLetters}
 use Rattle.pq_base.specs.LPresentation.{LPresentation, Obeys}
-use Rattle.pq_base.specs.Table.{Table, AllBelow, InLevel, HasTableClass, times, power, commutator, value}
+use Rattle.pq_base.specs.Table.{Table, AllBelow, InLevel, HasTableClass, power, commutator, value}
 use Rattle.pq_base.specs.Presentation.{Presentation, IsNormal, IsLaterSide, letter, word_from, normal_word, power_side, commutator_side, power_word, commutator_word}
 use Rattle.pq_base.specs.Joined.{Joined, IsConsistent}
 use Rattle.pq_base.specs.Answer.{Answer, IsAnswer, class_of, weight_at, image_words, spell}
@@ -26,6 +26,7 @@ use Rattle.pq_base.proofs.KilledWords.{killed-level}
 use Rattle.pc_presentation.specs.NormalTable.{normal_table, generator_numbers, NormalWordsAreATable}
 use Rattle.pc_presentation.specs.RowedLaws.{projection}
 use Rattle.pc_presentation.specs.CutLaws.{cut_word}
+use Rattle.pc_presentation.proofs.collecting.PlainRuns.{AllBelow-append, AllBelow-replicate}
 use Rattle.pc_presentation.proofs.rows.Projections.{get_or-projection_past}
 use Rattle.pc_presentation.proofs.cuts.CutSides.{sub-word_from, joined-cut}
 use Rattle.pc_presentation.proofs.normal_tables.LevelWords.{tables_have_the_class}
@@ -43,14 +44,6 @@ empty-stable (k ∷ w) h = absurd (h (λ e. absurd (no_letter k w e)))
     no_letter k w e = cc
 
 -- a right side that is trivial in a consistent presentation is empty
-zeros-below : (p n : ℕ) → 0 < p → AllBelow p (replicate n 0)
-zeros-below p zero l = tt
-zeros-below p (suc n) l = (l, zeros-below p n l)
-
-zeros-then_below : (p n : ℕ) (e : List ℕ) → 0 < p → AllBelow p e → AllBelow p (replicate n 0 ++ e)
-zeros-then_below p zero e l h = h
-zeros-then_below p (suc n) e l h = (l, zeros-then_below p n e l h)
-
 module _ (P : Presentation) (some : 0 < P.prime) (consistent : IsConsistent P) (l : ℕ) (e : List ℕ) (side : IsLaterSide P l e) where
   abbrev behind : List ℕ → List ℕ
   behind x = replicate {A = ℕ} (suc l) 0 ++ x
@@ -61,7 +54,7 @@ module _ (P : Presentation) (some : 0 < P.prime) (consistent : IsConsistent P) (
       let long = side.count in
       record {
         count = omega (arith, length-append (replicate {A = ℕ} l 0) x);
-        below = zeros-then_below P.prime (suc l) x some below;
+        below = AllBelow-append P.prime (replicate {A = ℕ} (suc l) 0) x (AllBelow-replicate P.prime (suc l) 0 some) below;
       }
 
   behind-word : (x : List ℕ) → normal_word (behind x) ≡ word_from (suc l) x
@@ -76,7 +69,7 @@ module _ (P : Presentation) (some : 0 < P.prime) (consistent : IsConsistent P) (
   trivial_side-empty trivial =
       let same : behind e ≡ behind (replicate (length e) 0) =
       consistent.unique (behind e) (behind (replicate (length e) 0)) (behind-normal e refl side.below)
-      (behind-normal (replicate (length e) 0) (length-replicate (length e) 0) (zeros-below P.prime (length e) some))
+      (behind-normal (replicate (length e) 0) (length-replicate (length e) 0) (AllBelow-replicate P.prime (length e) 0 some))
       (joined-trans (joined-from_equal P (behind-word e)) (joined-trans trivial (joined-from_equal P (sym no_side)))) in
       sym (behind-word e) ∙ ap normal_word same ∙ no_side
 

@@ -7,7 +7,7 @@ use Rattle.pq_base.proofs.groups.Groups.{Group, element_in, value_in, same_from_
 use Rattle.pq_base.proofs.groups.GroupLevels.{IsClosed, InLevelIn}
 use Rattle.pq_base.proofs.groups.GroupMaps.{IsMap, level-reached}
 use Rattle.pq_base.proofs.tables.TableLaws.{inverse-unique}
-use Rattle.pq_base.proofs.tables.TableGroup.{Element, table_group}
+use Rattle.pq_base.proofs.tables.TableGroup.{table_group}
 use Rattle.pq_base.proofs.tables.TableSeries.{IsAny, element, table_level-below, level_in_table_group}
 
 -- members of a group, one for each element up to the equivalence, the neutral one first, and the place of each element there

@@ -1,5 +1,5 @@
 -- Where each generator is joined to its word under the images, a word in spelled generators is joined under the images to the word.
-use Rattle.std.proofs.Common.{◌≡◌, ℕ, ◌<◌, ℤ, List, [], get_or, map, sym}
+use Rattle.std.proofs.Common.{ℕ, ◌<◌, ℤ, List, [], get_or, map, sym}
 use Rattle.std.proofs.Math.ListN.{get_or-map}
 use Rattle.pq_base.specs.SignedWord.{sub, HasLetters}
 use Rattle.pq_base.specs.Presentation.{Presentation, letter}

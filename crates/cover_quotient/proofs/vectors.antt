@@ -1,6 +1,7 @@
 -- What the definitions say of small covers: examples that meet them and some that do not.
 pub mod FitsVectors
 pub mod KeptVectors
+pub mod LargestStepVectors
 pub mod LevelVectors
 pub mod NextAnswerVectors
 pub mod NextPartsVectors

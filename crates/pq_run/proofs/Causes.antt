@@ -1,67 +1,103 @@
--- What a text is refused for, the input that gave it is refused for; and what the input of `quotient P C` is refused for,
--- the command is refused for, where its class is built.
+-- What a text is refused for, the input that gave it is refused for; and what the input of `quotient P C` is refused for, the command
+-- is refused for.
 use Rattle.std.proofs.Common.{◌≡◌, ℕ, List, Option, Some, None, IfSome, Result, IfErr, [], sym, subst}
+use Rattle.std.proofs.lemmas.Option.{IfSome_then}
 use Rattle.std.proofs.lemmas.Result.{IfErr-weaker}
 use Rattle.pq_base.specs.declared.prime.Prime.{Prime}
+use Rattle.pq_base.specs.Prime.{prime_value}
+use Rattle.pq_base.specs.LPresentation.{LPresentation}
+use Rattle.derivation_log.specs.declared.source.Run.{Run}
+use Rattle.derivation_log.specs.declared.source.Run.TheVariants.{Whole}
 use Rattle.lpres_reader.specs.declared.refusal.ReadRefusal.{ReadRefusal}
 use Rattle.lpres_reader.specs.declared.refusal.ReadRefusal.TheVariants as reading
+use Rattle.lpres_reader.specs.Reads.{Reads}
 use Rattle.lpres_reader.specs.Refusals.{IsRefusedBy}
-use Rattle.pq_run.specs.declared.answer.AnswerRefusal.{AnswerRefusal}
-use Rattle.pq_run.specs.declared.answer.AnswerRefusal.TheVariants as answer
+use Rattle.tower.specs.declared.refusal.TowerRefusal.{TowerRefusal}
+use Rattle.tower.specs.declared.refusal.TowerRefusal.TheVariants as tower
+use Rattle.tower.specs.Refusals.{IsRefusalOf}
 use Rattle.pq_run.specs.declared.form.Form.{Form}
 use Rattle.pq_run.specs.declared.input.Input.{Input}
 use Rattle.pq_run.specs.declared.input.Input.TheVariants.{Presentation}
 use Rattle.pq_run.specs.declared.refusal.Refusal.{Refusal}
-use Rattle.pq_run.specs.declared.refusal.Refusal.TheVariants.{Words, UnbuiltCommand, UnbuiltClass, UnbuiltEndos, ReadFault, InputTooLong, Text, NoMemory}
+use Rattle.pq_run.specs.declared.refusal.Refusal.TheVariants.{Words, UnbuiltCommand, UnbuiltEndos, ReadFault, InputTooLong, Text, TooLarge, NoMemory}
 use Rattle.pq_run.specs.Command.{CommandWords, Asks}
 use Rattle.pq_run.specs.Input.{IsWithin, IsAbove}
 use Rattle.pq_run.specs.Form.{quotient_command}
-use Rattle.pq_run.specs.Built.{IsBuiltClass, ReadsInput}
-use Rattle.pq_run.specs.Refusals.{refusal_of_reading, refusal_of_answer}
+use Rattle.pq_run.specs.Texts.{HasLargeRank}
+use Rattle.pq_run.specs.Built.{ReadsInput, IsGiven, IsTooLargeFor}
+use Rattle.pq_run.specs.Refusals.{refusal_of_reading, refusal_of_tower}
 use Rattle.pq_run.specs.Streams.{Reading}
-use Rattle.pq_run.specs.Cause.{IsTextCause, IsInputCause, IsCause}
-use Rattle.pq_run.proofs.QuotientCommands.{input_of-quotient_command, IsBuilt-quotient_command}
+use Rattle.pq_run.specs.Cause.{IsReadCause, IsTextCause, HasTextCause, IsInputCause, IsCause}
+use Rattle.pq_run.proofs.QuotientCommands.{input_of-quotient_command, IsBuilt-quotient_command, AtPrimeAndClass-quotient_command}
 
-pub reading_cause : (text : List ℕ) (e : ReadRefusal) → IsRefusedBy text e → IsTextCause text (refusal_of_reading e)
-reading_cause text (reading.Text fault) first = first
-reading_cause text reading.NoMemory first = tt
+pub reading_cause : (p c : ℕ) (text : List ℕ) (e : ReadRefusal) → IsRefusedBy text e → IsTextCause p c text (refusal_of_reading e)
+reading_cause p c text (reading.Text fault) first = first
+reading_cause p c text reading.NoMemory first = tt
 
-pub answer_cause : (text : List ℕ) (e : AnswerRefusal) → IsTextCause text (refusal_of_answer e)
-answer_cause text answer.NoMemory = tt
+pub tower_cause : (p c : ℕ) (text : List ℕ) (L : LPresentation) (e : TowerRefusal) → Reads text L → L.endos ≡ [] → IsRefusalOf L p c Whole e
+    → IsTextCause p c text (refusal_of_tower e)
+tower_cause p c text L (tower.TooLarge part k rank) reads none cause =
+    (cause.0, record { presentation = L; reads = reads; endos = none; large = cause.1 })
+tower_cause p c text L tower.NoMemory reads none cause = tt
+
+-- what an input is refused for before its text is read
+pub read_cause : (p c : ℕ) (r : Reading) (refusal : Refusal) → IsReadCause Presentation r refusal → IsInputCause p c r refusal
+read_cause p c r Words cause = absurd cause
+read_cause p c r UnbuiltCommand cause = absurd cause
+read_cause p c r UnbuiltEndos cause = absurd cause
+read_cause p c r ReadFault cause = cause
+read_cause p c r (InputTooLong input) cause = cause
+read_cause p c r (Text fault) cause = absurd cause
+read_cause p c r (TooLarge part k rank) cause = absurd cause
+read_cause p c r NoMemory cause = tt
 
 -- where the text is told to be what was left in the source
 told : (P : List ℕ → Type 0) (text : List ℕ) (left rest : Option (List ℕ)) → IfSome left (λ bytes. (text ≡ bytes) × (rest ≡ Some [])) → P text → IfSome left P
 told P text None rest whole holds = tt
 told P text (Some bytes) rest whole holds = subst P whole.0 holds
 
-text_cause : (input : Input) (text : List ℕ) (r : Reading) (refusal : Refusal) → IsWithin input text → IfSome r.left (λ bytes. (text ≡ bytes) × (r.rest ≡ Some []))
-    → IsTextCause text refusal → IsInputCause input r refusal
-text_cause input text r Words within whole cause = absurd cause
-text_cause input text r UnbuiltCommand within whole cause = absurd cause
-text_cause input text r UnbuiltClass within whole cause = absurd cause
-text_cause input text r UnbuiltEndos within whole cause = told _ text r.left r.rest whole (within, cause)
-text_cause input text r ReadFault within whole cause = absurd cause
-text_cause input text r (InputTooLong other) within whole cause = absurd cause
-text_cause input text r (Text fault) within whole cause = told _ text r.left r.rest whole (within, cause)
-text_cause input text r NoMemory within whole cause = tt
+module _ (p c : ℕ) (text : List ℕ) (r : Reading) (within : IsWithin Presentation text) (whole : IfSome r.left (λ bytes. (text ≡ bytes) × (r.rest ≡ Some []))) where
+  has_text_cause : (refusal : Refusal) → IsTextCause p c text refusal → HasTextCause p c r refusal
+  has_text_cause refusal cause = told (λ bytes. IsWithin Presentation bytes × IsTextCause p c bytes refusal) text r.left r.rest whole (within, cause)
 
-pub text_causes : {T : Type 0} (input : Input) (text items : List ℕ) (r : Reading) (result : Result T Refusal) → text ≡ items → IsWithin input items
-    → IfSome r.left (λ bytes. (items ≡ bytes) × (r.rest ≡ Some [])) → IfErr result (IsTextCause text) → IfErr result (IsInputCause input r)
-text_causes input text items r result same within whole causes =
-    IfErr-weaker result (IsTextCause text) (IsInputCause input r)
-    (λ refusal cause. text_cause input items r refusal within whole (subst (λ (bytes : List ℕ). IsTextCause bytes refusal) same cause)) causes
+  text_cause : (refusal : Refusal) → IsTextCause p c text refusal → IsInputCause p c r refusal
+  text_cause Words cause = absurd cause
+  text_cause UnbuiltCommand cause = absurd cause
+  text_cause UnbuiltEndos cause = has_text_cause UnbuiltEndos cause
+  text_cause ReadFault cause = absurd cause
+  text_cause (InputTooLong other) cause = absurd cause
+  text_cause (Text fault) cause = has_text_cause (Text fault) cause
+  text_cause (TooLarge part k rank) cause = has_text_cause (TooLarge part k rank) cause
+  text_cause NoMemory cause = tt
 
-module _ (words : List (List ℕ)) (p : Prime) (c : ℕ) (form : Form) (spelled : CommandWords words (quotient_command p c form)) (class : IsBuiltClass c) where
+pub text_causes : {T : Type 0} (p c : ℕ) (text items : List ℕ) (r : Reading) (result : Result T Refusal) → text ≡ items → IsWithin Presentation items
+    → IfSome r.left (λ bytes. (items ≡ bytes) × (r.rest ≡ Some [])) → IfErr result (IsTextCause p c text) → IfErr result (IsInputCause p c r)
+text_causes p c text items r result same within whole causes =
+    IfErr-weaker result (IsTextCause p c text) (IsInputCause p c r)
+    (λ refusal cause. text_cause p c items r within whole refusal (subst (λ (bytes : List ℕ). IsTextCause p c bytes refusal) same cause)) causes
+
+module _ (words : List (List ℕ)) (p : Prime) (c : ℕ) (form : Form) (spelled : CommandWords words (quotient_command p c form)) where
   reads_presentation : ReadsInput Presentation (quotient_command p c form)
-  reads_presentation = (IsBuilt-quotient_command p c form class, input_of-quotient_command p c form)
+  reads_presentation = (IsBuilt-quotient_command p c form, input_of-quotient_command p c form)
 
   asks_presentation : Asks (ReadsInput Presentation) words
   asks_presentation = (quotient_command p c form, spelled, reads_presentation)
 
-  pub input_cause : (r : Reading) (refusal : Refusal) → IsInputCause Presentation r refusal → IsCause words r refusal
+  asks_too_large : (part : Run) (k rank : ℕ) (bytes : List ℕ) → IsWithin Presentation bytes × ((part ≡ Whole) × HasLargeRank (prime_value p) c k rank bytes)
+      → Asks (IsTooLargeFor part k rank bytes) words
+  asks_too_large part k rank bytes cause = (
+    quotient_command p c form,
+    spelled,
+    (
+      (reads_presentation, cause.0),
+      cause.1.0,
+      AtPrimeAndClass-quotient_command (λ q d. HasLargeRank q d k rank bytes) p c form cause.1.1,
+    ),
+  )
+
+  pub input_cause : (r : Reading) (refusal : Refusal) → IsInputCause (prime_value p) c r refusal → IsCause words r refusal
   input_cause r Words cause = absurd cause
   input_cause r UnbuiltCommand cause = absurd cause
-  input_cause r UnbuiltClass cause = absurd cause
   input_cause r UnbuiltEndos cause = (asks_presentation, cause)
   input_cause r ReadFault cause = ((quotient_command p c form, spelled, (Presentation, reads_presentation)), cause)
   input_cause r (InputTooLong input) cause = (
@@ -69,4 +105,9 @@ module _ (words : List (List ℕ)) (p : Prime) (c : ℕ) (form : Form) (spelled 
     subst (λ (x : Input). IfSome r.left (IsAbove x)) (sym cause.0) cause.1,
   )
   input_cause r (Text fault) cause = (asks_presentation, cause)
+  input_cause r (TooLarge part k rank) cause = (
+    asks_presentation,
+    IfSome_then r.left {P = λ bytes. IsWithin Presentation bytes × IsTextCause (prime_value p) c bytes (TooLarge part k rank)}
+        {Q = λ bytes. Asks (IsTooLargeFor part k rank bytes) words} cause (asks_too_large part k rank),
+  )
   input_cause r NoMemory cause = (quotient_command p c form, spelled, reads_presentation.0)

@@ -8,9 +8,9 @@ use Rattle.pq_run.specs.declared.command.Command.{Command}
 use Rattle.pq_run.specs.declared.command.Command.TheVariants.{Quotient, Json, Certify, Check, Sample}
 use Rattle.pq_run.specs.declared.input.Input.{Input}
 use Rattle.pq_run.specs.declared.input.Input.TheVariants.{Presentation}
-use Rattle.pq_run.specs.Command.{command_words, CommandWords, AreCommandWords, IsInRange, Asks}
+use Rattle.pq_run.specs.Command.{command_words, CommandWords, AreCommandWords, IsInRange, Asks, AtPrimeAndClass}
 use Rattle.pq_run.specs.Input.{IsAbove}
-use Rattle.pq_run.specs.Built.{IsBuilt, IsUnbuilt, HasUnbuiltClass, IsTooLong, IsGiven}
+use Rattle.pq_run.specs.Built.{IsBuilt, IsUnbuilt, ReadsInput, IsTooLong, IsGiven}
 
 -- word number i, counted from 0
 abbrev word : ℕ → List (List ℕ) → List ℕ
@@ -93,6 +93,9 @@ Asks-words K words a = (a.0, a.1)
 pub Asks-weaker : (K M : Command → Type 0) (words : List (List ℕ)) → ((c : Command) → K c → M c) → Asks K words → Asks M words
 Asks-weaker K M words gives a = (a.0, a.1, gives a.0 a.2)
 
+pub Asks-built : (input : Input) (words : List (List ℕ)) → Asks (ReadsInput input) words → Asks IsBuilt words
+Asks-built input words a = Asks-weaker (ReadsInput input) IsBuilt words (λ c k. k.0) a
+
 -- words that spell a command of this kind, which is told by its parts
 pub Asks-same : (K : Command → Type 0) (words : List (List ℕ)) (c d : Command) → CommandWords words d → d ≡ c → K c → Asks K words
 Asks-same K words c d spelled same is = (c, subst (CommandWords words) same spelled, is)
@@ -108,12 +111,22 @@ unbuilt-not_built (Certify p c) u b = b
 unbuilt-not_built Check u b = b
 unbuilt-not_built (Sample n) u b = b
 
-pub unbuilt_class-not_built : (c : Command) → HasUnbuiltClass c → IsBuilt c → ⊥
-unbuilt_class-not_built (Quotient p c) u b = u b
-unbuilt_class-not_built (Json p c) u b = u b
-unbuilt_class-not_built (Certify p c) u b = u
-unbuilt_class-not_built Check u b = u
-unbuilt_class-not_built (Sample n) u b = u
+-- what follows from what holds of the prime and the class of a command
+pub AtPrimeAndClass-gives : (P : ℕ → ℕ → Type 0) (X : Type 0) → ((p c : ℕ) → P p c → X) → (command : Command) → AtPrimeAndClass P command → X
+AtPrimeAndClass-gives P X gives (Quotient p c) holds = gives (prime_value p) c holds
+AtPrimeAndClass-gives P X gives (Json p c) holds = gives (prime_value p) c holds
+AtPrimeAndClass-gives P X gives (Certify p c) holds = gives (prime_value p) c holds
+AtPrimeAndClass-gives P X gives Check holds = absurd holds
+AtPrimeAndClass-gives P X gives (Sample n) holds = absurd holds
+
+-- so from two facts of them
+pub AtPrimeAndClass-both : (P Q : ℕ → ℕ → Type 0) (X : Type 0) → ((p : Prime) (c : ℕ) → P (prime_value p) c → Q (prime_value p) c → X)
+    → (command : Command) → AtPrimeAndClass P command → AtPrimeAndClass Q command → X
+AtPrimeAndClass-both P Q X gives (Quotient p c) one other = gives p c one other
+AtPrimeAndClass-both P Q X gives (Json p c) one other = gives p c one other
+AtPrimeAndClass-both P Q X gives (Certify p c) one other = gives p c one other
+AtPrimeAndClass-both P Q X gives Check one other = absurd one
+AtPrimeAndClass-both P Q X gives (Sample n) one other = absurd one
 
 -- the length of an input is within its limit or not
 pub too_long-not_given : (bytes : List ℕ) (c : Command) → IsTooLong bytes c → IsGiven bytes c → ⊥

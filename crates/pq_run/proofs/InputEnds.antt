@@ -1,37 +1,47 @@
 -- How a command ends that reads an input, where the source tells it. The input is too long, or no presentation, or one with
--- endomorphisms, or answered, and at most one of these; so it decides the end, unless a device fails or memory is wanting.
-use Rattle.std.proofs.Common.{◌≡◌, ◌⊎◌, ℕ, List, Option, Some, None, IfSome, inl, inr, refl, ap, ◌∙◌, subst}
+-- endomorphisms, or one of a rank that is too large, or answered, and at most one of these; so it decides the end, unless a device
+-- fails or memory is wanting.
+use Rattle.std.proofs.Common.{◌≡◌, ◌⊎◌, ℕ, List, Option, Some, None, IfSome, inl, inr, refl, subst}
 use Rattle.pq_base.specs.declared.status.Status.{Status}
 use Rattle.pq_base.specs.declared.status.Status.TheVariants as status
-use Rattle.pq_base.specs.LPresentation.{LPresentation}
-use Rattle.lpres_reader.specs.declared.fault.TextFault.{TextFault}
-use Rattle.lpres_reader.specs.Stops.{kind_of}
-use Rattle.lpres_reader.proofs.faults.ReaderLaws.{each_text_reads_or_fails}
+use Rattle.pq_base.specs.Prime.{prime_value}
 use Rattle.pq_io.specs.Faults.{Rose}
 use Rattle.pq_run.specs.declared.command.Command.{Command}
 use Rattle.pq_run.specs.declared.input.Input.TheVariants.{Presentation}
 use Rattle.pq_run.specs.declared.refusal.Refusal.{Refusal}
-use Rattle.pq_run.specs.declared.refusal.Refusal.TheVariants.{Words, UnbuiltCommand, UnbuiltClass, UnbuiltEndos, ReadFault, InputTooLong, Text, NoMemory}
+use Rattle.pq_run.specs.declared.refusal.Refusal.TheVariants.{Words, UnbuiltCommand, UnbuiltEndos, ReadFault, InputTooLong, Text, TooLarge, NoMemory}
 use Rattle.pq_run.specs.Command.{Asks}
 use Rattle.pq_run.specs.Input.{IsAbove, IsWithin}
-use Rattle.pq_run.specs.Texts.{IsReadable, HasEndos, HasNoEndos, HasFault}
-use Rattle.pq_run.specs.Built.{IsBuilt, IsUnbuilt, HasUnbuiltClass, IsTooLong, IsGiven, IsBadText, HasUnbuiltEndos, IsAnswered}
+use Rattle.pq_run.specs.Texts.{IsReadable, HasEndos, HasLargeRank, HasSmallRanks, HasFault}
+use Rattle.pq_run.specs.Built.{IsBuilt, IsUnbuilt, IsTooLong, IsGiven, IsBadText, HasUnbuiltEndos, IsTooLargeFor, IsTooLarge, IsAnswered}
 use Rattle.pq_run.specs.Refusals.{refusal_status}
 use Rattle.pq_run.specs.Streams.{Reading, Writing}
 use Rattle.pq_run.specs.Cause.{IsCause}
 use Rattle.pq_run.specs.Ends.{Ends, IsDecided}
 use Rattle.pq_run.specs.Ends.Ends.{done, cut, refused}
-use Rattle.pq_run.proofs.Commands.{Asks-words, Asks-weaker, Asks-apart, unbuilt-not_built, unbuilt_class-not_built, too_long-not_given}
+use Rattle.pq_run.proofs.Commands.{Asks-words, Asks-weaker, Asks-apart, AtPrimeAndClass-gives, AtPrimeAndClass-both, unbuilt-not_built, too_long-not_given}
+use Rattle.pq_run.proofs.Texts.{HasFault-unreadable, HasEndos-HasLargeRank, HasEndos-HasSmallRanks, HasLargeRank-HasSmallRanks}
 
--- a text with a first fault is no presentation
-HasFault-unreadable : (bytes : List ℕ) (fault : TextFault) → HasFault fault bytes → ¬ IsReadable bytes
-HasFault-unreadable bytes fault has reads = (each_text_reads_or_fails bytes).not_both reads.0 fault.line (kind_of fault.kind) reads.1 has
+-- what an input is given for
+module _ (bytes : List ℕ) where
+  small-readable : (c : Command) → IsAnswered bytes c → IsReadable bytes
+  small-readable c is = AtPrimeAndClass-gives (λ p d. HasSmallRanks p d bytes) (IsReadable bytes) (λ p d h. (h.presentation, h.reads)) c is.1
 
--- a text doesn't read both with and without endomorphisms
-HasEndos-HasNoEndos : (bytes : List ℕ) → HasEndos bytes → HasNoEndos bytes → ⊥
-HasEndos-HasNoEndos bytes has none =
-    let same = (each_text_reads_or_fails bytes).one_presentation has.0 none.0 has.1 none.1 in
-    has.2 (ap (λ (L : LPresentation). L.endos) same ∙ none.2)
+  large-readable : (c : Command) → IsTooLarge bytes c → IsReadable bytes
+  large-readable c is =
+      AtPrimeAndClass-gives (λ p d. HasLargeRank p d is.1 is.2 bytes) (IsReadable bytes) (λ p d h. (h.presentation, h.reads)) c is.3.2
+
+  endos-small : (c : Command) → HasEndos bytes → IsAnswered bytes c → ⊥
+  endos-small c has is = AtPrimeAndClass-gives (λ p d. HasSmallRanks p d bytes) ⊥ (λ p d h. HasEndos-HasSmallRanks p d bytes has h) c is.1
+
+  endos-large : (c : Command) → HasEndos bytes → IsTooLarge bytes c → ⊥
+  endos-large c has is =
+      AtPrimeAndClass-gives (λ p d. HasLargeRank p d is.1 is.2 bytes) ⊥ (λ p d h. HasEndos-HasLargeRank p d is.1 is.2 bytes has h) c is.3.2
+
+  large-small : (c : Command) → IsTooLarge bytes c → IsAnswered bytes c → ⊥
+  large-small c large small =
+      AtPrimeAndClass-both (λ p d. HasLargeRank p d large.1 large.2 bytes) (λ p d. HasSmallRanks p d bytes) ⊥
+      (λ p d h s. HasLargeRank-HasSmallRanks (prime_value p) d large.1 large.2 bytes h s) c large.3.2 small.1
 
 -- the ends, each with what it says of the input and of the counts of faults
 data InputEnd (words : List (List ℕ)) (bytes : List ℕ) (r : Reading) (w : Writing) (end : Status) : Type 0 where
@@ -40,6 +50,7 @@ data InputEnd (words : List (List ℕ)) (bytes : List ℕ) (r : Reading) (w : Wr
   long : end ≡ status.InputTooLong → Asks (IsTooLong bytes) words → InputEnd words bytes r w end
   faulty : end ≡ status.BadText → Asks (IsBadText bytes) words → InputEnd words bytes r w end
   carried : end ≡ status.NotBuilt → Asks (HasUnbuiltEndos bytes) words → InputEnd words bytes r w end
+  large : end ≡ status.TooLarge → Asks (IsTooLarge bytes) words → InputEnd words bytes r w end
   unread : end ≡ status.ReadFault → Rose r.before r.after → InputEnd words bytes r w end
   wanting : end ≡ status.NoMemory → InputEnd words bytes r w end
 
@@ -50,7 +61,6 @@ module _ (words : List (List ℕ)) (bytes : List ℕ) (r : Reading) (w : Writing
   refused_end : (refusal : Refusal) → Asks IsBuilt words → IsCause words r refusal → end ≡ refusal_status refusal → InputEnd words bytes r w end
   refused_end Words ask cause is = absurd (cause (Asks-words IsBuilt words ask))
   refused_end UnbuiltCommand ask cause is = absurd (Asks-apart IsUnbuilt IsBuilt words unbuilt-not_built cause ask)
-  refused_end UnbuiltClass ask cause is = absurd (Asks-apart HasUnbuiltClass IsBuilt words unbuilt_class-not_built cause ask)
   refused_end UnbuiltEndos ask cause is =
       let has = here (λ b. IsWithin Presentation b × HasEndos b) cause.1 in
       carried is (cause.0.0, cause.0.1, ((cause.0.2, has.0), has.1))
@@ -59,6 +69,9 @@ module _ (words : List (List ℕ)) (bytes : List ℕ) (r : Reading) (w : Writing
   refused_end (Text fault) ask cause is =
       let has = here (λ b. IsWithin Presentation b × HasFault fault b) cause.1 in
       faulty is (cause.0.0, cause.0.1, ((cause.0.2, has.0), HasFault-unreadable bytes fault has.1))
+  refused_end (TooLarge run k rank) ask cause is =
+      let has = here (λ b. Asks (IsTooLargeFor run k rank b) words) cause.1 in
+      large is (has.0, has.1, (run, k, rank, has.2))
   refused_end NoMemory ask cause is = wanting is
 
   input_end : Ends words r w end → Asks IsBuilt words → InputEnd words bytes r w end
@@ -76,17 +89,29 @@ module _ (words : List (List ℕ)) (bytes : List ℕ) (r : Reading) (w : Writing
   long-bad : Asks (IsTooLong bytes) words → Asks (IsBadText bytes) words → ⊥
   long-bad = apart (IsBadText bytes) (λ c k. k.0)
 
+  long-large : Asks (IsTooLong bytes) words → Asks (IsTooLarge bytes) words → ⊥
+  long-large = apart (IsTooLarge bytes) (λ c k. k.3.0)
+
   long-endos : Asks (IsTooLong bytes) words → Asks (HasUnbuiltEndos bytes) words → ⊥
   long-endos = apart (HasUnbuiltEndos bytes) (λ c k. k.0)
 
   bad-answered : Asks (IsBadText bytes) words → Asks (IsAnswered bytes) words → ⊥
-  bad-answered bad a = bad.2.1 (a.2.1.0, a.2.1.1)
+  bad-answered bad a = bad.2.1 (small-readable bytes a.0 a.2)
+
+  bad-large : Asks (IsBadText bytes) words → Asks (IsTooLarge bytes) words → ⊥
+  bad-large bad a = bad.2.1 (large-readable bytes a.0 a.2)
 
   bad-endos : Asks (IsBadText bytes) words → Asks (HasUnbuiltEndos bytes) words → ⊥
   bad-endos bad a = bad.2.1 (a.2.1.0, a.2.1.1)
 
   endos-answered : Asks (HasUnbuiltEndos bytes) words → Asks (IsAnswered bytes) words → ⊥
-  endos-answered has a = HasEndos-HasNoEndos bytes has.2.1 a.2.1
+  endos-answered has a = endos-small bytes a.0 has.2.1 a.2
+
+  endos-too_large : Asks (HasUnbuiltEndos bytes) words → Asks (IsTooLarge bytes) words → ⊥
+  endos-too_large has a = endos-large bytes a.0 has.2.1 a.2
+
+  large-answered : Asks (IsTooLarge bytes) words → Asks (IsAnswered bytes) words → ⊥
+  large-answered = Asks-apart (IsTooLarge bytes) (IsAnswered bytes) words (large-small bytes)
 
   long_end : InputEnd words bytes r w end → Asks (IsTooLong bytes) words → IsDecided status.InputTooLong end
   long_end (whole is a) h = absurd (long-answered h a)
@@ -94,6 +119,7 @@ module _ (words : List (List ℕ)) (bytes : List ℕ) (r : Reading) (w : Writing
   long_end (long is _) h = inl is
   long_end (faulty is bad) h = absurd (long-bad h bad)
   long_end (carried is has) h = absurd (long-endos h has)
+  long_end (large is too) h = absurd (long-large h too)
   long_end (unread is rose) h = inr (inl is)
   long_end (wanting is) h = inr (inr is)
 
@@ -103,6 +129,7 @@ module _ (words : List (List ℕ)) (bytes : List ℕ) (r : Reading) (w : Writing
   bad_end (long is too) h = absurd (long-bad too h)
   bad_end (faulty is _) h = inl is
   bad_end (carried is has) h = absurd (bad-endos h has)
+  bad_end (large is too) h = absurd (bad-large h too)
   bad_end (unread is rose) h = inr (inl is)
   bad_end (wanting is) h = inr (inr is)
 
@@ -112,8 +139,19 @@ module _ (words : List (List ℕ)) (bytes : List ℕ) (r : Reading) (w : Writing
   endos_end (long is too) h = absurd (long-endos too h)
   endos_end (faulty is bad) h = absurd (bad-endos bad h)
   endos_end (carried is _) h = inl is
+  endos_end (large is too) h = absurd (endos-too_large h too)
   endos_end (unread is rose) h = inr (inl is)
   endos_end (wanting is) h = inr (inr is)
+
+  large_end : InputEnd words bytes r w end → Asks (IsTooLarge bytes) words → IsDecided status.TooLarge end
+  large_end (whole is a) h = absurd (large-answered h a)
+  large_end (part is a rose) h = absurd (large-answered h a)
+  large_end (long is too) h = absurd (long-large too h)
+  large_end (faulty is bad) h = absurd (bad-large bad h)
+  large_end (carried is has) h = absurd (endos-too_large has h)
+  large_end (large is _) h = inl is
+  large_end (unread is rose) h = inr (inl is)
+  large_end (wanting is) h = inr (inr is)
 
   answered_end : InputEnd words bytes r w end → Asks (IsAnswered bytes) words → ¬ Rose r.before r.after → ¬ Rose w.before w.after
       → (end ≡ status.Done) ⊎ (end ≡ status.NoMemory)
@@ -122,6 +160,7 @@ module _ (words : List (List ℕ)) (bytes : List ℕ) (r : Reading) (w : Writing
   answered_end (long is too) h steady firm = absurd (long-answered too h)
   answered_end (faulty is bad) h steady firm = absurd (bad-answered bad h)
   answered_end (carried is has) h steady firm = absurd (endos-answered has h)
+  answered_end (large is too) h steady firm = absurd (large-answered too h)
   answered_end (unread is rose) h steady firm = absurd (steady rose)
   answered_end (wanting is) h steady firm = inr is
 
@@ -144,6 +183,11 @@ module _ (words : List (List ℕ)) (r : Reading) (w : Writing) (end : Status) (e
   endos-ends = told r.left (λ bytes. Asks (HasUnbuiltEndos bytes) words → IsDecided status.NotBuilt end)
       (λ bytes is_left h. endos_end words bytes r w end is_left
       (input_end words bytes r w end is_left ends (Asks-weaker (HasUnbuiltEndos bytes) IsBuilt words (λ c k. k.0.0.0) h)) h)
+
+  pub too_large-ends : IfSome r.left (λ bytes. Asks (IsTooLarge bytes) words → IsDecided status.TooLarge end)
+  too_large-ends = told r.left (λ bytes. Asks (IsTooLarge bytes) words → IsDecided status.TooLarge end)
+      (λ bytes is_left h. large_end words bytes r w end is_left
+      (input_end words bytes r w end is_left ends (Asks-weaker (IsTooLarge bytes) IsBuilt words (λ c k. k.3.0.0.0) h)) h)
 
   pub complete-ends : IfSome r.left
       (λ bytes. Asks (IsAnswered bytes) words → ¬ Rose r.before r.after → ¬ Rose w.before w.after → (end ≡ status.Done) ⊎ (end ≡ status.NoMemory))

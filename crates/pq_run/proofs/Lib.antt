@@ -1,9 +1,12 @@
 pub mod Numbers
 pub mod Commands
 pub mod QuotientCommands
+pub mod Texts
 pub mod Outputs
 pub mod WordsEnds
 pub mod InputEnds
+pub mod TooLargeRanks
 pub mod RefusalEnds
+pub mod OutputEnds
 pub mod Causes
 pub mod TooLongLines

@@ -6,12 +6,12 @@ use Rattle.pq_base.specs.Prime.{IsOffered}
 use Rattle.pq_base.specs.LPresentation.{LPresentation}
 use Rattle.pq_base.specs.Presentation.{Presentation}
 use Rattle.pq_base.specs.Answer.{Answer, IsAnswer}
-use Rattle.pq_base.specs.Largest.{IsLargest}
-use Rattle.pq_base.specs.Canonical.{IsCanonical}
 use Rattle.lpres_reader.specs.Reads.{Reads}
 use Rattle.pc_presentation.specs.Pcp.{TailedPresentation, IsTailedPresentation}
 use Rattle.answer_text.specs.OneText.{AreNames, IsWritable}
 use Rattle.answer_text.proofs.OneText.{one_text_one_answer}
+use Rattle.tower.specs.Answers.{IsQuotient}
+use Rattle.pq_run.specs.Texts.{HasSmallRanks}
 use Rattle.pq_run.specs.Output.{WritesAnswer, OneOutputOneAnswer}
 
 AreNames-All : (names : List (List ℕ)) → All IsName names → AreNames names
@@ -29,16 +29,22 @@ writable A T same is answer names = record {
 }
 
 pub writes_answer : (p c : ℕ) (form : Answer → List ℕ) (bytes written : List ℕ) (L : LPresentation) (A : Answer) → Reads bytes L → All IsName L.names
-    → IsLargest L p c A → IsCanonical A → (All IsName A.names → IsWritable A) → written ≡ form A → WritesAnswer p c form bytes written
-writes_answer p c form bytes written L A reads names largest canonical can told = record {
+    → IsQuotient L p c A → (All IsName A.names → IsWritable A) → written ≡ form A → WritesAnswer p c form bytes written
+writes_answer p c form bytes written L A reads names quotient can told = record {
   presentation = L;
   reads = reads;
   answer = A;
-  largest = largest;
-  canonical = canonical;
-  writable = can (subst (All IsName) (sym largest.names) names);
+  largest = quotient.largest;
+  canonical = quotient.canonical;
+  class = quotient.class;
+  exact = quotient.exact;
+  writable = can (subst (All IsName) (sym quotient.largest.names) names);
   text = told;
 }
+
+-- a presentation that has a quotient has no largest quotient of a rank above the limit
+pub small_ranks : (p c : ℕ) (bytes : List ℕ) (L : LPresentation) (A : Answer) → Reads bytes L → L.endos ≡ [] → IsQuotient L p c A → HasSmallRanks p c bytes
+small_ranks p c bytes L A reads none quotient = record { presentation = L; reads = reads; endos = none; small = quotient.small }
 
 pub one_output_one_answer : OneOutputOneAnswer
 one_output_one_answer p c bytes written x y = one_text_one_answer x.answer y.answer x.writable y.writable (sym x.text ∙ y.text)

@@ -1,16 +1,18 @@
--- A command that is refused for a cause ends as its refusal has it; want of memory for the line of a fault has a cause
--- wherever the fault has.
-use Rattle.std.proofs.Common.{◌≡◌, ℕ, List, inl, inr, sym, ap, subst, ◌∙◌}
+-- A command that is refused for a cause ends as its refusal has it; want of memory for the line of a refusal has a cause wherever
+-- the refusal has.
+use Rattle.std.specs.Global.{Global}
+use Rattle.std.proofs.Common.{◌≡◌, ℕ, List, Result, Ok, Err, IfOk, OnErr, Vec, inl, inr, sym, ap, subst, ◌∙◌}
 use Rattle.pq_base.specs.declared.status.Status.{Status}
 use Rattle.pq_base.specs.declared.status.Status.TheVariants as status
-use Rattle.lpres_reader.specs.declared.fault.TextFault.{TextFault}
+use Rattle.pq_run.specs.declared.input.Input.TheVariants.{Presentation}
 use Rattle.pq_run.specs.declared.refusal.Refusal.{Refusal}
-use Rattle.pq_run.specs.declared.refusal.Refusal.TheVariants.{Words, UnbuiltCommand, UnbuiltClass, UnbuiltEndos, ReadFault, InputTooLong, Text, NoMemory}
+use Rattle.pq_run.specs.declared.refusal.Refusal.TheVariants.{Words, UnbuiltCommand, UnbuiltEndos, ReadFault, InputTooLong, Text, TooLarge, NoMemory}
 use Rattle.pq_run.specs.Refusals.{refusal_line, refusal_status}
 use Rattle.pq_run.specs.Streams.{Reading, Writing}
 use Rattle.pq_run.specs.Cause.{IsCause}
-use Rattle.pq_run.specs.Ends.{TakesLine, EndsBy, IsDone, IsCut, IsRefused, Ends}
+use Rattle.pq_run.specs.Ends.{TakesLine, NeedsMemory, EndsAs, EndsBy, IsDone, IsCut, IsRefused, Ends}
 use Rattle.pq_run.specs.Ends.Ends.{done, cut, refused}
+use Rattle.pq_run.proofs.Commands.{Asks-built}
 
 pub ends_as : (r told : Refusal) (w : Writing) (end : Status) → r ≡ told → end ≡ refusal_status told → TakesLine w (refusal_line told) → EndsBy r w end
 ends_as r told w end same is line =
@@ -21,38 +23,51 @@ pub ends_told : (r : Refusal) (line text : List ℕ) (w : Writing) (end : Status
     → TakesLine w line → EndsBy r w end
 ends_told r line text w end same told is takes = inl (is, subst (TakesLine w) (same ∙ told) takes)
 
-pub ends_wanting : (r : Refusal) (fault : TextFault) (w : Writing) (end : Status) → r ≡ Text fault → end ≡ refusal_status NoMemory
-    → TakesLine w (refusal_line NoMemory) → EndsBy r w end
-ends_wanting r fault w end same is line = inr ((fault, same), (is, line))
-
 pub ends_by : (r told : Refusal) (w : Writing) (end : Status) → r ≡ told → EndsBy told w end → EndsBy r w end
 ends_by r told w end same by = subst (λ (x : Refusal). EndsBy x w end) (sym same) by
+
+-- a line that took memory, or memory was wanting for it
+pub ends_in_memory : {E : Type 0} (r told : Refusal) (line : Result (Vec ℕ Global) E) (w : Writing) (end : Status) → r ≡ told → NeedsMemory told
+    → IfOk line (λ l. l.items ≡ refusal_line told) → IfOk line (λ l. (end ≡ refusal_status told) × TakesLine w l.items)
+    → OnErr line (EndsAs NoMemory w end) → EndsBy r w end
+ends_in_memory r told (Ok l) w end same needs is takes wanting =
+    ends_by r told w end same (inl (takes.0, subst (TakesLine w) is takes.1))
+ends_in_memory r told (Err e) w end same needs is takes wanting = ends_by r told w end same (inr (needs, wanting))
+
+wanting_cause : (words : List (List ℕ)) (r : Reading) (refusal : Refusal) → NeedsMemory refusal → IsCause words r refusal → IsCause words r NoMemory
+wanting_cause words r Words needs cause = absurd needs
+wanting_cause words r UnbuiltCommand needs cause = absurd needs
+wanting_cause words r UnbuiltEndos needs cause = absurd needs
+wanting_cause words r ReadFault needs cause = absurd needs
+wanting_cause words r (InputTooLong input) needs cause = absurd needs
+wanting_cause words r (Text fault) needs cause = Asks-built Presentation words cause.0
+wanting_cause words r (TooLarge part k rank) needs cause = Asks-built Presentation words cause.0
+wanting_cause words r NoMemory needs cause = absurd needs
 
 pub refuses : (words : List (List ℕ)) (r : Reading) (w : Writing) (end : Status) (refusal : Refusal) → IsCause words r refusal → EndsBy refusal w end
     → Ends words r w end
 refuses words r w end refusal cause (inl told) = refused (record { refusal = refusal; cause = cause; is = told.0; line = told.1 })
 refuses words r w end refusal cause (inr want) =
-    let fault : IsCause words r (Text want.0.0) = subst (IsCause words r) want.0.1 cause in
-    refused (record { refusal = NoMemory; cause = (fault.0.0, fault.0.1, fault.0.2.0); is = want.1.0; line = want.1.1 })
+    refused (record { refusal = NoMemory; cause = wanting_cause words r refusal want.0 cause; is = want.1.0; line = want.1.1 })
 
 not_done : (r : Refusal) → refusal_status r ≡ status.Done → ⊥
 not_done Words e = cc
 not_done UnbuiltCommand e = cc
-not_done UnbuiltClass e = cc
 not_done UnbuiltEndos e = cc
 not_done ReadFault e = cc
 not_done (InputTooLong input) e = cc
 not_done (Text fault) e = cc
+not_done (TooLarge part k rank) e = cc
 not_done NoMemory e = cc
 
 not_cut : (r : Refusal) → refusal_status r ≡ status.WriteFault → ⊥
 not_cut Words e = cc
 not_cut UnbuiltCommand e = cc
-not_cut UnbuiltClass e = cc
 not_cut UnbuiltEndos e = cc
 not_cut ReadFault e = cc
 not_cut (InputTooLong input) e = cc
 not_cut (Text fault) e = cc
+not_cut (TooLarge part k rank) e = cc
 not_cut NoMemory e = cc
 
 cut_or_done : status.WriteFault ≡ status.Done → ⊥

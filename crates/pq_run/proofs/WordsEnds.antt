@@ -1,37 +1,33 @@
--- What the words alone decide of how a command ends: whether it ends as bad words, and that a command and a class that
--- aren't built are refused.
+-- What the words alone decide of how a command ends: whether it ends as bad words, and that a command that isn't built is refused.
 use Rattle.std.proofs.Common.{◌≡◌, ◌↔◌, ℕ, List, refl, sym, ◌∙◌}
 use Rattle.pq_base.specs.declared.status.Status.{Status}
 use Rattle.pq_base.specs.declared.status.Status.TheVariants as status
 use Rattle.pq_run.specs.declared.input.Input.TheVariants.{Presentation}
 use Rattle.pq_run.specs.declared.refusal.Refusal.{Refusal}
-use Rattle.pq_run.specs.declared.refusal.Refusal.TheVariants.{Words, UnbuiltCommand, UnbuiltClass, UnbuiltEndos, ReadFault, InputTooLong, Text, NoMemory}
+use Rattle.pq_run.specs.declared.refusal.Refusal.TheVariants.{Words, UnbuiltCommand, UnbuiltEndos, ReadFault, InputTooLong, Text, TooLarge, NoMemory}
 use Rattle.pq_run.specs.Command.{AreCommandWords, Asks}
 use Rattle.pq_run.specs.Refusals.{refusal_status}
-use Rattle.pq_run.specs.Built.{IsBuilt, IsUnbuilt, HasUnbuiltClass, ReadsInput}
+use Rattle.pq_run.specs.Built.{IsBuilt, IsUnbuilt}
 use Rattle.pq_run.specs.Streams.{Reading, Writing}
 use Rattle.pq_run.specs.Cause.{IsCause}
 use Rattle.pq_run.specs.Ends.{Ends}
 use Rattle.pq_run.specs.Ends.Ends.{done, cut, refused}
-use Rattle.pq_run.proofs.Commands.{Asks-words, Asks-apart, unbuilt-not_built, unbuilt_class-not_built}
+use Rattle.pq_run.proofs.Commands.{Asks-words, Asks-apart, Asks-built, unbuilt-not_built}
 
--- a refusal is for words that are no command, for a command or a class that isn't built, or for a command that is built
+-- a refusal is for words that are no command, for a command that isn't built, or for a command that is built
 data Kind (words : List (List ℕ)) (refusal : Refusal) : Type 0 where
   no_command : refusal_status refusal ≡ status.BadWords → ¬ AreCommandWords words → Kind words refusal
   unbuilt : refusal_status refusal ≡ status.NotBuilt → AreCommandWords words → Kind words refusal
   built : ¬ (refusal_status refusal ≡ status.BadWords) → Asks IsBuilt words → Kind words refusal
 
-asks_built : (words : List (List ℕ)) → Asks (ReadsInput Presentation) words → Asks IsBuilt words
-asks_built words a = (a.0, a.1, a.2.0)
-
 kind_of_cause : (words : List (List ℕ)) (r : Reading) (refusal : Refusal) → IsCause words r refusal → Kind words refusal
 kind_of_cause words r Words cause = no_command refl cause
 kind_of_cause words r UnbuiltCommand cause = unbuilt refl (cause.0, cause.1)
-kind_of_cause words r UnbuiltClass cause = unbuilt refl (cause.0, cause.1)
-kind_of_cause words r UnbuiltEndos cause = built (λ e. cc) (asks_built words cause.0)
+kind_of_cause words r UnbuiltEndos cause = built (λ e. cc) (Asks-built Presentation words cause.0)
 kind_of_cause words r ReadFault cause = built (λ e. cc) (cause.0.0, cause.0.1, cause.0.2.1.0)
-kind_of_cause words r (InputTooLong input) cause = built (λ e. cc) (cause.0.0, cause.0.1, cause.0.2.0)
-kind_of_cause words r (Text fault) cause = built (λ e. cc) (asks_built words cause.0)
+kind_of_cause words r (InputTooLong input) cause = built (λ e. cc) (Asks-built input words cause.0)
+kind_of_cause words r (Text fault) cause = built (λ e. cc) (Asks-built Presentation words cause.0)
+kind_of_cause words r (TooLarge part k rank) cause = built (λ e. cc) (Asks-built Presentation words cause.0)
 kind_of_cause words r NoMemory cause = built (λ e. cc) cause
 
 unbuilt_or_bad : status.NotBuilt ≡ status.BadWords → ⊥
@@ -74,7 +70,3 @@ unbuilt-ends words r w end (refused by) good not_built =
 pub command-ends : (words : List (List ℕ)) (r : Reading) (w : Writing) (end : Status) → Ends words r w end → Asks IsUnbuilt words → end ≡ status.NotBuilt
 command-ends words r w end ends ask =
     unbuilt-ends words r w end ends (Asks-words IsUnbuilt words ask) (λ b. Asks-apart IsUnbuilt IsBuilt words unbuilt-not_built ask b)
-
-pub class-ends : (words : List (List ℕ)) (r : Reading) (w : Writing) (end : Status) → Ends words r w end → Asks HasUnbuiltClass words → end ≡ status.NotBuilt
-class-ends words r w end ends ask =
-    unbuilt-ends words r w end ends (Asks-words HasUnbuiltClass words ask) (λ b. Asks-apart HasUnbuiltClass IsBuilt words unbuilt_class-not_built ask b)

@@ -1,39 +1,30 @@
 -- Which commands are built, and which inputs of them.
 -- From: this project's own commands.
 use Rattle.std.specs.Prelude.{◌≡◌, ℕ, List, Some}
+use Rattle.derivation_log.specs.declared.source.Run.{Run}
+use Rattle.derivation_log.specs.declared.source.Run.TheVariants.{Whole}
 use Rattle.pq_run.specs.declared.command.Command.{Command}
 use Rattle.pq_run.specs.declared.command.Command.TheVariants.{Quotient, Json, Certify, Check, Sample}
 use Rattle.pq_run.specs.declared.input.Input.{Input}
 use Rattle.pq_run.specs.declared.input.Input.TheVariants.{Presentation}
+use Rattle.pq_run.specs.Command.{Asks, AtPrimeAndClass}
 use Rattle.pq_run.specs.Input.{input_of, IsAbove, IsWithin}
-use Rattle.pq_run.specs.Texts.{IsReadable, HasEndos, HasNoEndos}
-
--- the classes that are built
-abbrev pub IsBuiltClass : ℕ → Type 0
-IsBuiltClass c = c ≡ 1
+use Rattle.pq_run.specs.Texts.{IsReadable, HasEndos, HasLargeRank, HasSmallRanks}
 
 abbrev pub IsBuilt : Command → Type 0
-IsBuilt (Quotient p c) = IsBuiltClass c
-IsBuilt (Json p c) = IsBuiltClass c
+IsBuilt (Quotient p c) = Unit {0}
+IsBuilt (Json p c) = Unit {0}
 IsBuilt (Certify p c) = ⊥
 IsBuilt Check = ⊥
 IsBuilt (Sample n) = ⊥
 
--- a command that isn't built, whatever its numbers
+-- a command that isn't built
 abbrev pub IsUnbuilt : Command → Type 0
 IsUnbuilt (Quotient p c) = ⊥
 IsUnbuilt (Json p c) = ⊥
 IsUnbuilt (Certify p c) = Unit {0}
 IsUnbuilt Check = Unit {0}
 IsUnbuilt (Sample n) = Unit {0}
-
--- a command that is built, but not at its class
-abbrev pub HasUnbuiltClass : Command → Type 0
-HasUnbuiltClass (Quotient p c) = ¬ IsBuiltClass c
-HasUnbuiltClass (Json p c) = ¬ IsBuiltClass c
-HasUnbuiltClass (Certify p c) = ⊥
-HasUnbuiltClass Check = ⊥
-HasUnbuiltClass (Sample n) = ⊥
 
 -- a command that is built and reads such an input
 abbrev pub ReadsInput : Input → Command → Type 0
@@ -59,6 +50,20 @@ IsBadText bytes command = IsGiven bytes command × ¬ IsReadable bytes
 abbrev pub HasUnbuiltEndos : List ℕ → Command → Type 0
 HasUnbuiltEndos bytes command = IsGiven bytes command × HasEndos bytes
 
--- so, and the bytes are a presentation that is answered
+-- so, and in this part of the presentation, which is the whole, class k is the first whose largest quotient has a rank above the
+-- limit: the rank is r
+abbrev pub IsTooLargeFor : Run → ℕ → ℕ → List ℕ → Command → Type 0
+IsTooLargeFor part k r bytes command = IsGiven bytes command × (part ≡ Whole) × AtPrimeAndClass (λ p c. HasLargeRank p c k r bytes) command
+
+-- so, in some part and at some class
+abbrev pub IsTooLarge : List ℕ → Command → Type 0
+IsTooLarge bytes command = (part : Run) × (k : ℕ) × (r : ℕ) × IsTooLargeFor part k r bytes command
+
+-- so, but no largest quotient up to the class asked for has a rank above the limit: the bytes are a presentation that is answered
 abbrev pub IsAnswered : List ℕ → Command → Type 0
-IsAnswered bytes command = IsGiven bytes command × HasNoEndos bytes
+IsAnswered bytes command = IsGiven bytes command × AtPrimeAndClass (λ p c. HasSmallRanks p c bytes) command
+
+-- the words and the bytes determine the first class whose rank is above the limit, and this rank
+abbrev pub OneTooLarge : Type 0
+OneTooLarge = (words : List (List ℕ)) (bytes : List ℕ) (part other : Run) (j k r s : ℕ) → Asks (IsTooLargeFor part j r bytes) words
+    → Asks (IsTooLargeFor other k s bytes) words → (part ≡ other) × (j ≡ k) × (r ≡ s)

@@ -1,46 +1,58 @@
--- What it takes for a command to be refused.
+-- What it takes for a command to be refused. Want of memory needs no cause but that the command is built.
 -- From: this project's own commands.
 use Rattle.std.specs.Prelude.{◌≡◌, ℕ, List, IfSome}
+use Rattle.derivation_log.specs.declared.source.Run.TheVariants.{Whole}
 use Rattle.pq_io.specs.Faults.{Rose}
 use Rattle.pq_run.specs.declared.input.Input.{Input}
 use Rattle.pq_run.specs.declared.input.Input.TheVariants.{Presentation}
 use Rattle.pq_run.specs.declared.refusal.Refusal.{Refusal}
-use Rattle.pq_run.specs.declared.refusal.Refusal.TheVariants.{Words, UnbuiltCommand, UnbuiltClass, UnbuiltEndos, ReadFault, InputTooLong, Text, NoMemory}
+use Rattle.pq_run.specs.declared.refusal.Refusal.TheVariants.{Words, UnbuiltCommand, UnbuiltEndos, ReadFault, InputTooLong, Text, TooLarge, NoMemory}
 use Rattle.pq_run.specs.Command.{AreCommandWords, Asks}
 use Rattle.pq_run.specs.Input.{IsAbove, IsWithin}
-use Rattle.pq_run.specs.Texts.{HasEndos, HasFault}
-use Rattle.pq_run.specs.Built.{IsBuilt, IsUnbuilt, HasUnbuiltClass, ReadsInput, IsReading}
+use Rattle.pq_run.specs.Texts.{HasEndos, HasFault, HasLargeRank}
+use Rattle.pq_run.specs.Built.{IsBuilt, IsUnbuilt, ReadsInput, IsReading, IsTooLargeFor}
 use Rattle.pq_run.specs.Streams.{Reading}
 
--- what it takes for the bytes of a presentation to be refused so; want of memory needs no cause
-abbrev pub IsTextCause : List ℕ → Refusal → Type 0
-IsTextCause bytes Words = ⊥
-IsTextCause bytes UnbuiltCommand = ⊥
-IsTextCause bytes UnbuiltClass = ⊥
-IsTextCause bytes UnbuiltEndos = HasEndos bytes
-IsTextCause bytes ReadFault = ⊥
-IsTextCause bytes (InputTooLong input) = ⊥
-IsTextCause bytes (Text fault) = HasFault fault bytes
-IsTextCause bytes NoMemory = Unit {0}
+-- what it takes for an input to be refused so before its text is read
+abbrev pub IsReadCause : Input → Reading → Refusal → Type 0
+IsReadCause input r ReadFault = Rose r.before r.after
+IsReadCause input r (InputTooLong other) = (other ≡ input) × IfSome r.left (IsAbove input)
+IsReadCause input r NoMemory = Unit {0}
+IsReadCause input r _ = ⊥
 
--- what it takes for an input to be refused so
-abbrev pub IsInputCause : Input → Reading → Refusal → Type 0
-IsInputCause input r Words = ⊥
-IsInputCause input r UnbuiltCommand = ⊥
-IsInputCause input r UnbuiltClass = ⊥
-IsInputCause input r UnbuiltEndos = IfSome r.left (λ bytes. IsWithin input bytes × HasEndos bytes)
-IsInputCause input r ReadFault = Rose r.before r.after
-IsInputCause input r (InputTooLong other) = (other ≡ input) × IfSome r.left (IsAbove input)
-IsInputCause input r (Text fault) = IfSome r.left (λ bytes. IsWithin input bytes × HasFault fault bytes)
-IsInputCause input r NoMemory = Unit {0}
+-- what it takes for the bytes of a presentation to be refused so, at this prime and class
+abbrev pub IsTextCause : ℕ → ℕ → List ℕ → Refusal → Type 0
+IsTextCause p c bytes UnbuiltEndos = HasEndos bytes
+IsTextCause p c bytes (Text fault) = HasFault fault bytes
+IsTextCause p c bytes (TooLarge part k rank) = (part ≡ Whole) × HasLargeRank p c k rank bytes
+IsTextCause p c bytes NoMemory = Unit {0}
+IsTextCause p c bytes _ = ⊥
 
--- what it takes for a command to be refused so; want of memory needs no cause but that the command is built
+-- the bytes aren't too many, and this is what they are refused for, where the source tells them
+abbrev pub HasTextCause : ℕ → ℕ → Reading → Refusal → Type 0
+HasTextCause p c r refusal = IfSome r.left (λ bytes. IsWithin Presentation bytes × IsTextCause p c bytes refusal)
+
+-- what it takes for the input of a presentation to be refused so, at this prime and class
+abbrev pub IsInputCause : ℕ → ℕ → Reading → Refusal → Type 0
+IsInputCause p c r Words = ⊥
+IsInputCause p c r UnbuiltCommand = ⊥
+IsInputCause p c r UnbuiltEndos = HasTextCause p c r UnbuiltEndos
+IsInputCause p c r ReadFault = IsReadCause Presentation r ReadFault
+IsInputCause p c r (InputTooLong input) = IsReadCause Presentation r (InputTooLong input)
+IsInputCause p c r (Text fault) = HasTextCause p c r (Text fault)
+IsInputCause p c r (TooLarge part k rank) = HasTextCause p c r (TooLarge part k rank)
+IsInputCause p c r NoMemory = Unit {0}
+
+-- what it takes for a command to be refused so
 abbrev pub IsCause : List (List ℕ) → Reading → Refusal → Type 0
 IsCause words r Words = ¬ AreCommandWords words
 IsCause words r UnbuiltCommand = Asks IsUnbuilt words
-IsCause words r UnbuiltClass = Asks HasUnbuiltClass words
-IsCause words r UnbuiltEndos = Asks (ReadsInput Presentation) words × IfSome r.left (λ bytes. IsWithin Presentation bytes × HasEndos bytes)
+IsCause words r UnbuiltEndos =
+    Asks (ReadsInput Presentation) words × IfSome r.left (λ bytes. IsWithin Presentation bytes × HasEndos bytes)
 IsCause words r ReadFault = Asks IsReading words × Rose r.before r.after
 IsCause words r (InputTooLong input) = Asks (ReadsInput input) words × IfSome r.left (IsAbove input)
-IsCause words r (Text fault) = Asks (ReadsInput Presentation) words × IfSome r.left (λ bytes. IsWithin Presentation bytes × HasFault fault bytes)
+IsCause words r (Text fault) =
+    Asks (ReadsInput Presentation) words × IfSome r.left (λ bytes. IsWithin Presentation bytes × HasFault fault bytes)
+IsCause words r (TooLarge part k rank) =
+    Asks (ReadsInput Presentation) words × IfSome r.left (λ bytes. Asks (IsTooLargeFor part k rank bytes) words)
 IsCause words r NoMemory = Asks IsBuilt words

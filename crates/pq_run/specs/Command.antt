@@ -1,6 +1,7 @@
 -- The words of a command: the one list of texts that spells it. Numbers are in decimal digits.
 -- From: this project's own table of command words.
 use Rattle.std.specs.Prelude.{◌≡◌, ◌≤◌, ℕ, List, [], ◌∷◌, codes, decimal}
+use Rattle.pq_base.specs.Limits.{max_class}
 use Rattle.pq_base.specs.Prime.{prime_value}
 use Rattle.pq_run.specs.declared.command.Command.{Command}
 use Rattle.pq_run.specs.declared.command.Command.TheVariants.{Quotient, Json, Certify, Check, Sample}
@@ -14,7 +15,7 @@ command_words (Sample n) = codes "sample" ∷ decimal n ∷ []
 
 -- a class that can be asked for
 abbrev pub IsClass : ℕ → Type 0
-IsClass c = (1 ≤ c) × (c ≤ 60)
+IsClass c = (1 ≤ c) × (c ≤ max_class)
 
 -- the numbers of a command are within their limits
 abbrev pub IsInRange : Command → Type 0
@@ -36,3 +37,11 @@ AreCommandWords words = (command : Command) × CommandWords words command
 -- the words are those of a command of this kind
 abbrev pub Asks : (Command → Type 0) → List (List ℕ) → Type 0
 Asks kind words = (command : Command) × CommandWords words command × kind command
+
+-- a command that has a prime and a class, and this holds of them
+abbrev pub AtPrimeAndClass : (ℕ → ℕ → Type 0) → Command → Type 0
+AtPrimeAndClass P (Quotient p c) = P (prime_value p) c
+AtPrimeAndClass P (Json p c) = P (prime_value p) c
+AtPrimeAndClass P (Certify p c) = P (prime_value p) c
+AtPrimeAndClass P Check = ⊥
+AtPrimeAndClass P (Sample n) = ⊥

@@ -5,10 +5,9 @@ use Rattle.pq_base.specs.declared.status.Status.{Status}
 use Rattle.pq_base.specs.declared.status.Status.TheVariants as status
 use Rattle.pq_io.specs.Faults.{Rose}
 use Rattle.pq_io.specs.Writing.{Gains, GainsProperPrefix}
-use Rattle.lpres_reader.specs.declared.fault.TextFault.{TextFault}
 use Rattle.pq_run.specs.declared.command.Command.{Command}
 use Rattle.pq_run.specs.declared.refusal.Refusal.{Refusal}
-use Rattle.pq_run.specs.declared.refusal.Refusal.TheVariants.{Text, NoMemory}
+use Rattle.pq_run.specs.declared.refusal.Refusal.TheVariants.{Text, TooLarge, NoMemory}
 use Rattle.pq_run.specs.Command.{CommandWords, Asks}
 use Rattle.pq_run.specs.Input.{input_of, read_of, IsReadToEnd}
 use Rattle.pq_run.specs.Output.{Output}
@@ -55,9 +54,15 @@ IsDecided decided end = (end ≡ decided) ⊎ ((end ≡ status.ReadFault) ⊎ (e
 abbrev pub EndsAs : Refusal → Writing → Status → Type 0
 EndsAs refusal w end = (end ≡ refusal_status refusal) × TakesLine w (refusal_line refusal)
 
--- the same, or memory was wanting for the line of a fault, and this was told in its place
+-- a refusal whose line needs memory
+abbrev pub NeedsMemory : Refusal → Type 0
+NeedsMemory (Text fault) = Unit {0}
+NeedsMemory (TooLarge part k rank) = Unit {0}
+NeedsMemory _ = ⊥
+
+-- a command ended as this refusal has it, or memory was wanting for its line, and this was told in its place
 abbrev pub EndsBy : Refusal → Writing → Status → Type 0
-EndsBy refusal w end = EndsAs refusal w end ⊎ (((fault : TextFault) × (refusal ≡ Text fault)) × EndsAs NoMemory w end)
+EndsBy refusal w end = EndsAs refusal w end ⊎ (NeedsMemory refusal × EndsAs NoMemory w end)
 
 -- what is known of a command that came to its output: it is built, and what was read is answered
 pub record CameToOutput (words : List (List ℕ)) (r : Reading) : Type 0 where

@@ -1,9 +1,10 @@
 -- What a command writes for what it reads. A row that isn't built has no case.
 -- From: this project's own commands.
-use Rattle.std.specs.Prelude.{◌≡◌, ℕ, List}
+use Rattle.std.specs.Prelude.{◌≡◌, ◌<◌, ℕ, List}
 use Rattle.pq_base.specs.Prime.{prime_value}
 use Rattle.pq_base.specs.LPresentation.{LPresentation}
-use Rattle.pq_base.specs.Answer.{Answer}
+use Rattle.pq_base.specs.Series.{HasClass}
+use Rattle.pq_base.specs.Answer.{Answer, class_of}
 use Rattle.pq_base.specs.Largest.{IsLargest}
 use Rattle.pq_base.specs.Canonical.{IsCanonical}
 use Rattle.lpres_reader.specs.Reads.{Reads}
@@ -14,13 +15,16 @@ use Rattle.pq_run.specs.declared.command.Command.{Command}
 use Rattle.pq_run.specs.declared.command.Command.TheVariants.{Quotient, Json, Certify, Check, Sample}
 use Rattle.pq_run.specs.Command.{Asks}
 
--- the bytes read as one presentation, and what is written is one largest quotient of it, the canonical one, in this form
+-- the bytes read as one presentation, and what is written is one largest quotient of it, the canonical one, in this form. The class
+-- that it shows is the least that its presentation has
 pub record WritesAnswer (p c : ℕ) (form : Answer → List ℕ) (bytes written : List ℕ) : Type 0 where
   pub presentation : LPresentation
   pub reads : Reads bytes presentation
   pub answer : Answer
   pub largest : IsLargest presentation p c answer
   pub canonical : IsCanonical answer
+  pub class : HasClass answer.presentation (class_of answer)
+  pub exact : (k : ℕ) → k < class_of answer → ¬ HasClass answer.presentation k
   pub writable : IsWritable answer
   pub text : written ≡ form answer
 

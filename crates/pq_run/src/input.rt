@@ -2,7 +2,7 @@
 ghost use Rattle.std.specs.Prelude.{◌≡◌, ◌+◌, ◌≤◌, Some, [], IfOk, IfErr, IfSome};
 ghost use Rattle.pq_run.specs.Input.{byte_limit, IsWithin, IsTaken};
 ghost use Rattle.pq_run.specs.Streams.{reading_of};
-ghost use Rattle.pq_run.specs.Cause.{IsInputCause};
+ghost use Rattle.pq_run.specs.Cause.{IsReadCause};
 
 use crate::refusal::Refusal;
 use pq_base::limits::{CERTIFICATE_BYTES, PRESENTATION_BYTES};
@@ -38,7 +38,7 @@ pub fn read_input<S: Source>(
 ) -> Result<Vec<u8>, Refusal>
     ensures within { IfOk result (λ bytes. IsWithin input bytes.items) }
     ensures whole { IfOk result (λ bytes. IfSome (S.left source.old) (λ told. (bytes.items ≡ told) × (S.left source.new ≡ Some []))) }
-    ensures err { IfErr result (IsInputCause input (reading_of S.left S.faults source.old source.new)) }
+    ensures err { IfErr result (IsReadCause input (reading_of S.left S.faults source.old source.new)) }
     ensures count { S.faults source.old ≤ S.faults source.new }
     ensures left { IsTaken (byte_limit input + 1) (S.left source.old) (S.left source.new) }
 {

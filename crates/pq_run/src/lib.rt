@@ -3,7 +3,6 @@
 //! it writes the one line that says why the command is refused. Each status has its exact cause.
 #![tactic(auto)]
 
-mod answer;
 mod command;
 mod form;
 mod input;

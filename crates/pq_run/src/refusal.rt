@@ -1,17 +1,20 @@
 // Why a command is refused, and the line that says so.
-ghost use Rattle.std.specs.Prelude.{◌≡◌, ◌≤◌, IfOk, IsNone, string_bytes};
+ghost use Rattle.std.specs.Prelude.{◌≡◌, ◌≤◌, IfOk, OnErr, IsNone, string_bytes};
 ghost use Rattle.lpres_reader.specs.declared.fault.Kind.TheVariants.{Limit as PastLimit};
-ghost use Rattle.pq_run.specs.Refusals.{refusal_of_reading, refusal_of_answer, too_long_line, fault_line, kind_text, limit_text};
+ghost use Rattle.pq_run.specs.Refusals.{refusal_of_reading, refusal_of_tower, refusal_line};
+ghost use Rattle.pq_run.specs.Refusals.{too_long_line, too_large_line, part_text, fault_line, kind_text, limit_text};
 ghost use Rattle.pq_run.specs.Streams.{writing_of};
 ghost use Rattle.pq_run.specs.Ends.{TakesLine, EndsBy};
-ghost use Rattle.pq_run.specs.declared.refusal.Refusal.TheVariants.{NoMemory as WantOfMemory, Text as FaultOfText};
+ghost use Rattle.pq_run.specs.declared.refusal.Refusal.TheVariants.{NoMemory as WantOfMemory};
 
-use crate::answer::AnswerRefusal;
 use crate::input::Input;
+use derivation_log::Run;
 use lpres_reader::{Kind, ReadRefusal, TextFault, Which};
+use pq_base::limits::RANK;
 use pq_base::{NoMemory, Status};
 use pq_io::{Sink, write_whole};
 use std::alloc::Global;
+use tower::TowerRefusal;
 
 /// Why a command is refused.
 #[derive(Clone, Copy, Debug, PartialEq, Eq)]
@@ -20,8 +23,6 @@ pub enum Refusal {
     Words,
     /// The command isn't built.
     UnbuiltCommand,
-    /// The class isn't built.
-    UnbuiltClass,
     /// Presentations with endomorphisms aren't built.
     UnbuiltEndos,
     /// A read failed.
@@ -30,6 +31,15 @@ pub enum Refusal {
     InputTooLong(Input),
     /// The input is no presentation: this is its first fault.
     Text(TextFault),
+    /// The largest quotient of a class has a rank above `RANK`.
+    TooLarge {
+        /// The run that came to it.
+        part: Run,
+        /// The first such class.
+        class: u8,
+        /// The rank of this quotient.
+        rank: u32,
+    },
     /// Nothing could be allocated.
     NoMemory,
 }
@@ -45,12 +55,13 @@ impl From<ReadRefusal> for Refusal {
     }
 }
 
-impl From<AnswerRefusal> for Refusal {
-    ghost from_gives = { λ refused e. e ≡ refusal_of_answer refused };
+impl From<TowerRefusal> for Refusal {
+    ghost from_gives = { λ refused e. e ≡ refusal_of_tower refused };
 
-    fn from(refused: AnswerRefusal) -> Refusal {
+    fn from(refused: TowerRefusal) -> Refusal {
         match refused {
-            AnswerRefusal::NoMemory => Refusal::NoMemory,
+            TowerRefusal::TooLarge { part, class, rank } => Refusal::TooLarge { part, class, rank },
+            TowerRefusal::NoMemory => Refusal::NoMemory,
         }
     }
 }
@@ -63,8 +74,8 @@ impl From<NoMemory> for Refusal {
     }
 }
 
-/// Writes the line of a refusal, and gives its status, also where the sink fails. Only the line of a text's fault needs
-/// memory; where it is wanting, that is told in place of the fault.
+/// Writes the line of a refusal, and gives its status, also where the sink fails. Only the lines of a text's fault and of a
+/// rank that is too large need memory; where it is wanting, that is told in their place.
 pub fn refuse<K: Sink>(alloc: Global, sink: &mut K, refusal: Refusal) -> Status
     ensures ends { EndsBy refusal (writing_of K.taken K.faults sink.old sink.new) result }
     ensures count { K.faults sink.old ≤ K.faults sink.new }
@@ -75,25 +86,35 @@ pub fn refuse<K: Sink>(alloc: Global, sink: &mut K, refusal: Refusal) -> Status
         Refusal::UnbuiltCommand => {
             refuse_by(sink, b"refused: not built: command\n", Status::NotBuilt)
         }
-        Refusal::UnbuiltClass => refuse_by(sink, b"refused: not built: class\n", Status::NotBuilt),
         Refusal::UnbuiltEndos => refuse_by(sink, b"refused: not built: endos\n", Status::NotBuilt),
         Refusal::ReadFault => refuse_by(sink, b"refused: read fault\n", Status::ReadFault),
         Refusal::InputTooLong(input) => {
             refuse_by(sink, too_long_line(input), Status::InputTooLong)
         }
-        Refusal::Text(fault) => refuse_text(alloc, sink, fault),
+        Refusal::Text(fault) => refuse_in_memory(sink, fault_line(alloc, fault), Status::BadText),
+        Refusal::TooLarge { part, class, rank } => {
+            let line = too_large_line(alloc, part, class, rank);
+            refuse_in_memory(sink, line, Status::TooLarge)
+        }
         Refusal::NoMemory => refuse_by(sink, b"refused: no memory\n", Status::NoMemory),
     }
 }
 
-/// Writes the line of a text's fault.
-fn refuse_text<K: Sink>(alloc: Global, sink: &mut K, fault: TextFault) -> Status
-    ensures ends { EndsBy (FaultOfText fault) (writing_of K.taken K.faults sink.old sink.new) result }
+/// Writes a line that took memory, or the one that says that it was wanting.
+fn refuse_in_memory<K: Sink>(
+    sink: &mut K,
+    line: Result<Vec<u8>, NoMemory>,
+    status: Status,
+) -> Status
+    ensures told { IfOk line
+        (λ text. (result ≡ status) × TakesLine (writing_of K.taken K.faults sink.old sink.new) text.items) }
+    ensures wanting { OnErr line
+        ((result ≡ Status.NoMemory) × TakesLine (writing_of K.taken K.faults sink.old sink.new) (refusal_line WantOfMemory)) }
     ensures count { K.faults sink.old ≤ K.faults sink.new }
     ensures silent { IsNone (K.taken sink.old) → IsNone (K.taken sink.new) }
 {
-    match fault_line(alloc, fault) {
-        Ok(line) => refuse_by(sink, &line, Status::BadText),
+    match line {
+        Ok(text) => refuse_by(sink, &text, status),
         Err(NoMemory) => refuse_by(sink, b"refused: no memory\n", Status::NoMemory),
     }
 }
@@ -116,6 +137,27 @@ fn too_long_line(input: Input) -> &'static [u8]
     match input {
         Input::Presentation => b"refused: input above 4194304 bytes\n",
         Input::Certificate => b"refused: input above 268435456 bytes\n",
+    }
+}
+
+/// The line that says that a rank is too large.
+fn too_large_line(alloc: Global, part: Run, class: u8, rank: u32) -> Result<Vec<u8>, NoMemory>
+    ensures { IfOk result (λ line. line.items ≡ too_large_line part class rank) }
+{
+    let part = part_text(part);
+    let text = format!(in alloc;
+        "refused: rank {rank} above {RANK} at class {class} of the {part}\n"
+    )?;
+    Ok(text.into_bytes())
+}
+
+/// What a run computes.
+fn part_text(part: Run) -> &'static str
+    ensures { result.now ≡ part_text part }
+{
+    match part {
+        Run::Iterated => "iterated part",
+        Run::Whole => "whole",
     }
 }
 

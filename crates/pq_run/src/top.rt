@@ -3,15 +3,13 @@ ghost use Rattle.std.specs.Prelude.{◌≡◌, ◌≢◌, ◌+◌, ◌⊎◌, �
 ghost use Rattle.pq_io.specs.Faults.{Rose};
 ghost use Rattle.pq_io.specs.Writing.{Gains, GainsProperPrefix};
 ghost use Rattle.pq_run.specs.declared.input.Input.TheVariants.{Presentation};
-ghost use Rattle.pq_run.specs.Command.{AreCommandWords, CommandWords, Asks};
+ghost use Rattle.pq_run.specs.Command.{IsClass, AreCommandWords, CommandWords, Asks};
 ghost use Rattle.pq_run.specs.Input.{byte_limit, IsTaken, IsTakenBy};
 ghost use Rattle.pq_run.specs.Form.{quotient_command};
-ghost use Rattle.pq_run.specs.Built.{IsBuiltClass, IsUnbuilt, HasUnbuiltClass, IsReading};
-ghost use Rattle.pq_run.specs.Built.{IsTooLong, IsBadText, HasUnbuiltEndos, IsAnswered};
+ghost use Rattle.pq_run.specs.Built.{IsUnbuilt, IsReading, IsTooLong, IsBadText, HasUnbuiltEndos, IsTooLarge, IsAnswered};
 ghost use Rattle.pq_run.specs.Streams.{reading_of, writing_of};
 ghost use Rattle.pq_run.specs.Ends.{IsDone, IsCut, IsRefused, IsDecided, Ends};
 
-use crate::answer::is_built_class;
 use crate::command::{Command, parse_words};
 use crate::form::Form;
 use crate::output::output_of_source;
@@ -23,7 +21,7 @@ use std::alloc::Global;
 
 /// Carries out the command that the words spell: reads its input to the end and writes its output, or a line that says why
 /// the command is refused. The line is written as far as the sink takes it.
-/// Built so far: `quotient P 1` and `quotient P 1 json`, for presentations without endomorphisms.
+/// Built so far: `quotient P C` and `quotient P C json`, for presentations without endomorphisms.
 pub fn run<S: Source, K: Sink>(alloc: Global, words: &Words, source: &mut S, sink: &mut K) -> Status
     // With status 0 the command has read its input to its end, and has written one output, and nothing else.
     ensures done { result ≡ Status.Done
@@ -40,7 +38,6 @@ pub fn run<S: Source, K: Sink>(alloc: Global, words: &Words, source: &mut S, sin
     // What the words alone decide needs no memory, and leaves the source as it was.
     ensures bad_words { (result ≡ Status.BadWords) ↔ (¬ AreCommandWords words.now) }
     ensures command { Asks IsUnbuilt words.now → result ≡ Status.NotBuilt }
-    ensures class { Asks HasUnbuiltClass words.now → result ≡ Status.NotBuilt }
     ensures untouched { ¬ Asks IsReading words.now → S.left source.new ≡ S.left source.old }
     ensures uncounted { ¬ Asks IsReading words.now → S.faults source.new ≡ S.faults source.old }
 
@@ -48,8 +45,10 @@ pub fn run<S: Source, K: Sink>(alloc: Global, words: &Words, source: &mut S, sin
     ensures too_long { IfSome (S.left source.old) (λ bytes. Asks (IsTooLong bytes) words.now → IsDecided Status.InputTooLong result) }
     ensures bad_text { IfSome (S.left source.old) (λ bytes. Asks (IsBadText bytes) words.now → IsDecided Status.BadText result) }
     ensures endos { IfSome (S.left source.old) (λ bytes. Asks (HasUnbuiltEndos bytes) words.now → IsDecided Status.NotBuilt result) }
+    ensures too_large { IfSome (S.left source.old) (λ bytes. Asks (IsTooLarge bytes) words.now → IsDecided Status.TooLarge result) }
 
-    // Where nothing fails and the input is one that is answered, the command is done, unless memory is wanting.
+    // Where nothing fails and the input is one that is answered, as each is whose largest quotients have ranks within the limit,
+    // the command is done, unless memory is wanting.
     ensures complete { IfSome (S.left source.old) (λ bytes. Asks (IsAnswered bytes) words.now
         → ¬ Rose (S.faults source.old) (S.faults source.new) → ¬ Rose (K.faults sink.old) (K.faults sink.new)
         → (result ≡ Status.Done) ⊎ (result ≡ Status.NoMemory)) }
@@ -91,7 +90,7 @@ fn carry_out<S: Source, K: Sink>(
     }
 }
 
-/// Reads a presentation and writes the answer that is asked for, where its class is built.
+/// Reads a presentation and writes the answer that is asked for.
 fn quotient<S: Source, K: Sink>(
     alloc: Global,
     prime: Prime,
@@ -100,18 +99,14 @@ fn quotient<S: Source, K: Sink>(
     source: &mut S,
     sink: &mut K,
 ) -> Status
+    requires { IsClass class }
     ensures ends { (words : List (List ℕ)) → CommandWords words (quotient_command prime class form)
         → Ends words (reading_of S.left S.faults source.old source.new) (writing_of K.taken K.faults sink.old sink.new) result }
-    ensures untouched { ¬ IsBuiltClass class → S.left source.new ≡ S.left source.old }
-    ensures uncounted { ¬ IsBuiltClass class → S.faults source.new ≡ S.faults source.old }
     ensures read_count { S.faults source.old ≤ S.faults source.new }
     ensures write_count { K.faults sink.old ≤ K.faults sink.new }
     ensures left { IsTaken (byte_limit Presentation + 1) (S.left source.old) (S.left source.new) }
     ensures silent { IsNone (K.taken sink.old) → IsNone (K.taken sink.new) }
 {
-    if !is_built_class(class) {
-        return refuse(alloc, sink, Refusal::UnbuiltClass);
-    }
     match output_of_source(alloc, prime, class, form, source) {
         Ok(bytes) => finish(sink, &bytes),
         Err(refusal) => refuse(alloc, sink, refusal),

@@ -1,7 +1,7 @@
 -- Each refusal is told by its own line and status.
 use Rattle.std.proofs.Common.{refl}
-use Rattle.pq_run.specs.declared.refusal.Refusal.TheVariants.{InputTooLong}
-use Rattle.pq_run.proofs.RefusalEnds.{ends_as, ends_by, ends_told}
+use Rattle.pq_run.specs.declared.refusal.Refusal.TheVariants.{InputTooLong, Text, TooLarge}
+use Rattle.pq_run.proofs.RefusalEnds.{ends_as, ends_by, ends_told, ends_in_memory}
 use Rattle.pq_run.proofs.refusal.refuse.Goals as goal
 
 pub returns-in-Words-clause-ends : goal.returns-in-Words-clause-ends
@@ -9,9 +9,6 @@ returns-in-Words-clause-ends g c = ends_as _ _ _ _ c.in-Words.is c.refuse_by.ens
 
 pub returns-in-UnbuiltCommand-clause-ends : goal.returns-in-UnbuiltCommand-clause-ends
 returns-in-UnbuiltCommand-clause-ends g c = ends_as _ _ _ _ c.in-UnbuiltCommand.is c.refuse_by-in-UnbuiltCommand.ensures.status c.refuse_by-in-UnbuiltCommand.ensures.line
-
-pub returns-in-UnbuiltClass-clause-ends : goal.returns-in-UnbuiltClass-clause-ends
-returns-in-UnbuiltClass-clause-ends g c = ends_as _ _ _ _ c.in-UnbuiltClass.is c.refuse_by-in-UnbuiltClass.ensures.status c.refuse_by-in-UnbuiltClass.ensures.line
 
 pub returns-in-UnbuiltEndos-clause-ends : goal.returns-in-UnbuiltEndos-clause-ends
 returns-in-UnbuiltEndos-clause-ends g c = ends_as _ _ _ _ c.in-UnbuiltEndos.is c.refuse_by-in-UnbuiltEndos.ensures.status c.refuse_by-in-UnbuiltEndos.ensures.line
@@ -27,4 +24,10 @@ pub returns-in-NoMemory-clause-ends : goal.returns-in-NoMemory-clause-ends
 returns-in-NoMemory-clause-ends g c = ends_as _ _ _ _ c.in-NoMemory.is c.refuse_by-in-NoMemory.ensures.status c.refuse_by-in-NoMemory.ensures.line
 
 pub returns-in-Text-clause-ends : goal.returns-in-Text-clause-ends
-returns-in-Text-clause-ends g c = ends_by _ _ _ _ c.in-Text.is c.refuse_text.ensures.ends
+returns-in-Text-clause-ends g c =
+    ends_in_memory _ (Text c.in-Text.fault) _ _ _ c.in-Text.is tt c.fault_line.ensures c.refuse_in_memory.ensures.told c.refuse_in_memory.ensures.wanting
+
+pub returns-in-TooLarge-clause-ends : goal.returns-in-TooLarge-clause-ends
+returns-in-TooLarge-clause-ends g c =
+    ends_in_memory _ (TooLarge c.in-TooLarge.part c.in-TooLarge.class c.in-TooLarge.rank) _ _ _ c.in-TooLarge.is tt c.too_large_line-line.ensures
+    c.refuse_in_memory-in-TooLarge.ensures.told c.refuse_in_memory-in-TooLarge.ensures.wanting

@@ -1,10 +1,11 @@
--- Words that are no command, and commands that aren't built, are refused; and only where a class is built the source is read.
+-- Words that are no command, and commands that aren't built, are refused; and only where a command is built the source is read.
 use Rattle.std.proofs.Common.{refl}
-use Rattle.pq_run.specs.declared.command.Command.TheVariants.{Quotient, Json}
+use Rattle.pq_run.specs.declared.form.Form.TheVariants.{Text, Json}
 use Rattle.pq_run.specs.declared.input.Input.TheVariants.{Presentation}
 use Rattle.pq_run.specs.declared.refusal.Refusal.TheVariants.{Words, UnbuiltCommand}
 use Rattle.pq_run.specs.Built.{IsUnbuilt, IsReading}
 use Rattle.pq_run.proofs.Commands.{Asks-same}
+use Rattle.pq_run.proofs.QuotientCommands.{IsClass-quotient_command}
 use Rattle.pq_run.proofs.RefusalEnds.{refuses}
 use Rattle.pq_run.proofs.top.carry_out.Goals as goal
 
@@ -23,12 +24,10 @@ pub returns-in-Some-Sample-clause-ends : goal.returns-in-Some-Sample-clause-ends
 returns-in-Some-Sample-clause-ends g c =
     refuses _ _ _ _ UnbuiltCommand (Asks-same IsUnbuilt _ _ _ c.in-Some-Sample.ensures.some c.in-Some-Sample.field-0-is tt) c.refuse-in-Some-Sample.ensures.ends
 
-pub returns-in-Some-Quotient-clause-untouched : goal.returns-in-Some-Quotient-clause-untouched
-returns-in-Some-Quotient-clause-untouched g c idle =
-    c.quotient.ensures.untouched
-    (λ b. idle (Asks-same IsReading _ (Quotient c.in-Some-Quotient.prime c.in-Some-Quotient.class) _ c.in-Some-Quotient.ensures.some c.in-Some-Quotient.field-0-is (Presentation, (b, refl))))
+pub quotient-requires : goal.quotient-requires
+quotient-requires g c =
+    IsClass-quotient_command _ _ c.in-Some-Quotient.prime c.in-Some-Quotient.class Text c.in-Some-Quotient.ensures.some c.in-Some-Quotient.field-0-is
 
-pub returns-in-Some-Json-clause-untouched : goal.returns-in-Some-Json-clause-untouched
-returns-in-Some-Json-clause-untouched g c idle =
-    c.quotient-in-Some-Json.ensures.untouched
-    (λ b. idle (Asks-same IsReading _ (Json c.in-Some-Json.prime c.in-Some-Json.class) _ c.in-Some-Json.ensures.some c.in-Some-Json.field-0-is (Presentation, (b, refl))))
+pub quotient-requires-in-Some-Json : goal.quotient-requires-in-Some-Json
+quotient-requires-in-Some-Json g c =
+    IsClass-quotient_command _ _ c.in-Some-Json.prime c.in-Some-Json.class Json c.in-Some-Json.ensures.some c.in-Some-Json.field-0-is

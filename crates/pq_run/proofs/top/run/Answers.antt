@@ -1,6 +1,6 @@
 -- Each clause follows from how the command ends.
-use Rattle.pq_run.proofs.WordsEnds.{bad_words-ends, command-ends, class-ends}
-use Rattle.pq_run.proofs.InputEnds.{too_long-ends, bad_text-ends, endos-ends, complete-ends}
+use Rattle.pq_run.proofs.WordsEnds.{bad_words-ends, command-ends}
+use Rattle.pq_run.proofs.InputEnds.{too_long-ends, bad_text-ends, endos-ends, too_large-ends, complete-ends}
 use Rattle.pq_run.proofs.RefusalEnds.{done-ends, write_fault-ends, refused-ends}
 use Rattle.pq_run.proofs.top.run.Goals as goal
 
@@ -19,9 +19,6 @@ returns-clause-bad_words g c = bad_words-ends _ _ _ _ c.carry_out.ensures.ends
 pub returns-clause-command : goal.returns-clause-command
 returns-clause-command g c = command-ends _ _ _ _ c.carry_out.ensures.ends
 
-pub returns-clause-class : goal.returns-clause-class
-returns-clause-class g c = class-ends _ _ _ _ c.carry_out.ensures.ends
-
 pub returns-clause-too_long : goal.returns-clause-too_long
 returns-clause-too_long g c = too_long-ends _ _ _ _ c.carry_out.ensures.ends
 
@@ -30,6 +27,9 @@ returns-clause-bad_text g c = bad_text-ends _ _ _ _ c.carry_out.ensures.ends
 
 pub returns-clause-endos : goal.returns-clause-endos
 returns-clause-endos g c = endos-ends _ _ _ _ c.carry_out.ensures.ends
+
+pub returns-clause-too_large : goal.returns-clause-too_large
+returns-clause-too_large g c = too_large-ends _ _ _ _ c.carry_out.ensures.ends
 
 pub returns-clause-complete : goal.returns-clause-complete
 returns-clause-complete g c = complete-ends _ _ _ _ c.carry_out.ensures.ends

@@ -55,9 +55,7 @@ impl Recipe {
         requires { place < 32 }
         ensures { IfOk result (λ r. r ≡ pos (suc place) ∷ []) }
     {
-        let mut steps = Vec::new(alloc);
-        steps.push(Step::Generator(place as u8))?;
-        Ok(Recipe { steps, letters: 1 })
+        Recipe::empty(alloc).with_generator(place)
     }
 
     /// How many letters the word has.

@@ -3,7 +3,7 @@
 ghost use Rattle.std.specs.Prelude.{Ok};
 ghost use Rattle.lpres_reader.specs.Front.{token_of};
 ghost use Rattle.lpres_reader.specs.Presentations.{AreGenerators};
-ghost use Rattle.lpres_reader.specs.Values.{Given, behind_unit, with_bracket, unit_step, factor_step, exponent_step, minus_step};
+ghost use Rattle.lpres_reader.specs.Values.{Given, signed, behind_unit, with_bracket, unit_step, factor_step, raised_step, exponent_step, minus_step};
 
 use crate::factor::Factor;
 use crate::fault::Stop;
@@ -98,6 +98,21 @@ pub(crate) fn factor_step(
     }
 }
 
+/// The digits of an exponent behind a factor, and whether a minus is before them.
+fn raised_step(
+    alloc: Global,
+    around: Around,
+    before: Recipe,
+    base: Factor,
+    negative: bool,
+    digits: &[u8],
+) -> Result<Value, Stop>
+    ensures { Given result (raised_step around before base (signed negative digits.now)) }
+{
+    let factor = raised(alloc, base, negative, digits)?;
+    Ok(value_at(Stage::Behind(before, factor), around))
+}
+
 /// A token behind a `^`.
 pub(crate) fn exponent_step(
     alloc: Global,
@@ -111,10 +126,7 @@ pub(crate) fn exponent_step(
     ensures { Given result (exponent_step names.now.keys around before base (token_of token.entry)) }
 {
     match token {
-        Token::Number(digits) => {
-            let factor = raised(alloc, base, false, digits)?;
-            Ok(value_at(Stage::Behind(before, factor), around))
-        }
+        Token::Number(digits) => raised_step(alloc, around, before, base, false, digits),
         Token::Symbol(Symbol::Minus) => Ok(value_at(Stage::Minus(before, base), around)),
         token => {
             let place = Place {
@@ -137,10 +149,7 @@ pub(crate) fn minus_step(
     ensures { Given result (minus_step around before base (token_of token.entry)) }
 {
     match token {
-        Token::Number(digits) => {
-            let factor = raised(alloc, base, true, digits)?;
-            Ok(value_at(Stage::Behind(before, factor), around))
-        }
+        Token::Number(digits) => raised_step(alloc, around, before, base, true, digits),
         _ => no_form(),
     }
 }

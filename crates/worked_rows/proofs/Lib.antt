@@ -1,1 +1,3 @@
+mod EmptyCounts
 mod ImageLists
+mod KeptTails

@@ -29,6 +29,7 @@ mod run_cases;
 mod step_cases;
 mod stream_cases;
 mod text;
+mod tower_cases;
 mod word_cases;
 
 use crate::answer_cases::AnswerCases;
@@ -44,6 +45,7 @@ use crate::row_cases::RowCases;
 use crate::run_cases::RunCases;
 use crate::step_cases::StepCases;
 use crate::stream_cases::StreamCases;
+use crate::tower_cases::TowerCases;
 use crate::word_cases::WordCases;
 use anyhow::Result;
 use std::{env, fs};
@@ -62,6 +64,7 @@ fn main(rt: HostRuntime) -> Result<()> {
     show::<CoverCases>(&rt, &folder, "covers")?;
     show::<StepCases>(&rt, &folder, "steps")?;
     show::<LogCases>(&rt, &folder, "logs")?;
+    show::<TowerCases>(&rt, &folder, "towers")?;
     show::<RunCases>(&rt, &folder, "commands")
 }
 

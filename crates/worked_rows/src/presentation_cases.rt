@@ -1,7 +1,6 @@
 //! Texts of presentations. `read` reads the text of the case, and `read TEXT` this text: the answer is the canonical text
 //! of what it means, which reads back as that, and so does a copy; or the line and the kind of its first fault. Of what
-//! was read last, `along NUMBERS / LETTERS` is the image of a word along endomorphisms, `class_one P` the answer of class
-//! 1, `trivial P` the answer of class 0, and `relator fixed N` a relator by number.
+//! was read last, `along NUMBERS / LETTERS` is the image of a word along endomorphisms, and `trivial P` the answer of class 0.
 
 use crate::answer_cases::show_answer;
 use crate::cases::Cases;
@@ -9,7 +8,6 @@ use crate::checks::{are_endo_numbers, is_over};
 use crate::text::{Text, halves, numbers, show, unescaped};
 use crate::word_cases::{show_word, word_of};
 use anyhow::{Result, bail};
-use class_one::answer_of_class_one;
 use free_words::Word;
 use lpres_reader::{Kind, LPres, ReadRefusal, along, read, write};
 use pc_presentation::Answer;
@@ -44,7 +42,6 @@ impl Cases for PresentationCases {
         };
         match verb {
             "along" => show_along(self.alloc, pres, rest, out),
-            "class_one" => show_class_one(self.alloc, pres, rest, out),
             "trivial" => show_trivial(self.alloc, pres, rest, out),
             _ => bail!("no such verb"),
         }
@@ -71,7 +68,7 @@ impl PresentationCases {
 }
 
 /// What a text that isn't too long reads as.
-fn read_short(alloc: Global, text: &[u8]) -> Result<Result<LPres, ReadRefusal>> {
+pub(crate) fn read_short(alloc: Global, text: &[u8]) -> Result<Result<LPres, ReadRefusal>> {
     if text.len() > 10_000_000 {
         bail!("too long");
     }
@@ -139,15 +136,6 @@ pub(crate) fn prime_of(text: &str) -> Result<Prime> {
         Some(prime) => Ok(prime),
         None => bail!("no prime"),
     }
-}
-
-fn show_class_one(alloc: Global, pres: &LPres, rest: &str, out: &mut String) -> Result<()> {
-    let prime = prime_of(rest)?;
-    if !pres.endos().is_empty() {
-        bail!("with endomorphisms");
-    }
-    let answer = answer_of_class_one(alloc, pres, prime)?;
-    show_answer(alloc, &answer, out)
 }
 
 fn show_trivial(alloc: Global, pres: &LPres, rest: &str, out: &mut String) -> Result<()> {

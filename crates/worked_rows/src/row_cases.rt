@@ -1,22 +1,18 @@
 //! Rows of residues, and bases of them. `row P / ENTRIES` is a row; then `set COLUMN VALUE`, `add K / ENTRIES` for K times
 //! another row, `scale K`, `clear` and `copy ENTRIES` change it: the answer is the row, and its last column that isn't 0.
-//! `sums P WIDTH / LETTERS` are the exponent sums of a word. `basis P WIDTH` is an empty basis, `reserve N` takes memory for
-//! N rows, `insert ENTRIES` inserts a row, `reduce ENTRIES` reduces one, and `added N` and `pivot COLUMN` look into the basis.
+//! `basis P WIDTH` is an empty basis, `reserve N` takes memory for N rows, `insert ENTRIES` inserts a row, `reduce ENTRIES`
+//! reduces one, and `added N` and `pivot COLUMN` look into the basis.
 
 ghost use Rattle.std.specs.Prelude.{◌≡◌, IfOk, OnOk, length};
 ghost use Rattle.pq_base.specs.Prime.{prime_value};
 
 use crate::cases::Cases;
-use crate::checks::is_over;
 use crate::element_calls::show_row;
 use crate::presentation_cases::prime_of;
 use crate::text::{halves, numbers, show_numbers};
-use crate::word_cases::word_of;
 use anyhow::{Result, bail};
-use class_one::exponent_sums;
 use fp_echelon::{Basis, Insertion};
 use fp_rows::Row;
-use free_words::Word;
 use pq_base::Prime;
 use std::alloc::Global;
 
@@ -44,7 +40,6 @@ impl Cases for RowCases {
                 show_whole_row(out, &row)?;
                 self.row = Some(row);
             }
-            "sums" => show_sums(self.alloc, rest, out)?,
             "basis" => {
                 let (prime, width) = halves(rest, " ")?;
                 self.basis = Some(Basis::new(self.alloc, prime_of(prime)?, width.parse::<u16>()?)?);
@@ -179,22 +174,6 @@ fn show_whole_row(out: &mut String, row: &Row) -> Result<()> {
         out.push_str(", zero")?;
     }
     out.push('\n')?;
-    Ok(())
-}
-
-fn show_sums(alloc: Global, rest: &str, out: &mut String) -> Result<()> {
-    let (head, letters) = halves(rest, "/")?;
-    let (prime, width) = halves(head, " ")?;
-    let mut row = Row::zero(alloc, prime_of(prime)?, width.parse::<u16>()?)?;
-    put_sums(&word_of(alloc, letters)?, &mut row)?;
-    show_whole_row(out, &row)
-}
-
-fn put_sums(word: &Word, row: &mut Row) -> Result<()> {
-    if !is_over(row.width() as usize, word.letters()) {
-        bail!("a letter without a column");
-    }
-    exponent_sums(word, row);
     Ok(())
 }
 

@@ -1,21 +1,27 @@
-//! Steps of one class from class 0. `step` is the step from the answer that the text of the case is, without rows, and
-//! `step ROW / ROW ..` the step where these rows over its tails are to be trivial: the next answer, or that it is the same,
-//! or the rank that is too large.
+//! Steps of one class. `step` is the step from the answer that the text of the case is, without rows, and `step ROW / ROW
+//! ..` the step where these rows over its tails are to be trivial: the next answer, or that it is the same, or the rank that
+//! is too large; or that there is no step, where the class is the greatest one or a tail is kept that makes no generator.
 
-ghost use Rattle.std.specs.Prelude.{◌≡◌, length, OnOk, IfOk};
+ghost use Rattle.std.specs.Prelude.{◌≡◌, ◌≤◌, ◌-◌, get_or, length, OnOk, IfOk, IsTrue};
 ghost use Rattle.pq_base.specs.Answer.{class_of};
+ghost use Rattle.pq_base.specs.Answer.Definition.{image};
+ghost use Rattle.fp_echelon.specs.Reduced.{IsPivot};
+ghost use Rattle.p_cover.specs.Sources.{source_of, relation_source};
 ghost use Rattle.p_cover.specs.Covers.{all_sources};
+ghost use Rattle.cover_quotient.specs.Defining.{HasEmptySide, MayBeKept, KeptMayBeKept};
 
 use crate::answer_cases::{read_short, show_answer};
 use crate::cases::Cases;
+use crate::element_calls::is_relation;
 use crate::row_cases::insert_row;
 use crate::text::{Text, numbers};
 use anyhow::{Result, bail};
 use class_step::{Step, eliminate};
 use fp_echelon::Basis;
-use p_cover::full_cover;
-use pc_presentation::Answer;
+use p_cover::{Cover, TailSource, full_cover};
+use pc_presentation::{Answer, Relation};
 use pq_base::NoMemory;
+use pq_base::limits::CLASS;
 use std::alloc::Global;
 
 #[derive(Drop)]
@@ -41,7 +47,7 @@ impl Cases for StepCases {
         }
         let answer = read_short(self.alloc, self.text.bytes())??;
         let basis = basis_of(self.alloc, &answer, rest)?;
-        show_step(self.alloc, &step_of(self.alloc, &answer, &basis)?, out)
+        show_step(self.alloc, step_of(self.alloc, &answer, &basis)?, out)
     }
 }
 
@@ -80,33 +86,69 @@ fn insert_text(alloc: Global, basis: &mut Basis, row: &str) -> Result<()>
     Ok(())
 }
 
-/// The step from an answer of class 0.
-fn step_of(alloc: Global, answer: &Answer, basis: &Basis) -> Result<Step>
-    requires prime { basis.now.prime ≡ answer.now.presentation.prime }
-    requires width { basis.now.width ≡ length (all_sources answer.now) }
-{
-    if answer.class() != 0 {
-        bail!("a class above 0");
-    }
-    let step = first_step(alloc, answer, basis)?;
-    Ok(step)
-}
-
-/// The step from class 0, by the full cover.
-fn first_step(alloc: Global, answer: &Answer, basis: &Basis) -> Result<Step, NoMemory>
-    requires class { class_of answer.now ≡ 0 }
+/// The step from an answer, by its full cover, where each kept tail may be kept.
+fn step_of(alloc: Global, answer: &Answer, basis: &Basis) -> Result<Option<Step>, NoMemory>
     requires prime { basis.now.prime ≡ answer.now.presentation.prime }
     requires width { basis.now.width ≡ length (all_sources answer.now) }
 {
     let cover = full_cover(alloc, answer)?;
-    eliminate(alloc, &cover, basis)
+    if CLASS <= cover.answer().class() || !may_all_be_kept(&cover, basis) {
+        return Ok(None);
+    }
+    Ok(Some(eliminate(alloc, &cover, basis)?))
 }
 
-fn show_step(alloc: Global, step: &Step, out: &mut String) -> Result<()> {
+/// Whether each tail without a pivot may be kept as a generator.
+fn may_all_be_kept(cover: &Cover, basis: &Basis) -> bool
+    requires { basis.now.width ≡ length cover.now.sources }
+    ensures { IsTrue result → KeptMayBeKept cover.now basis.now.rows }
+{
+    for c in 0..basis.width() {
+        if !is_pivot_or_may_be_kept(cover, basis, c + 1) {
+            return false;
+        }
+    }
+    true
+}
+
+/// Whether a tail has a pivot, or may be kept.
+fn is_pivot_or_may_be_kept(cover: &Cover, basis: &Basis, tail: u16) -> bool
+    requires first { 1 ≤ tail }
+    requires last { tail ≤ length cover.now.sources }
+    ensures { IsTrue result → ¬ IsPivot tail basis.now.rows
+        → MayBeKept cover.now.answer (class_of cover.now.answer) (get_or cover.now.sources (tail - 1) (image 0)) }
+{
+    basis.is_pivot(tail) || may_be_kept(cover.answer(), cover.source_of(tail))
+}
+
+/// Whether a tail may be kept: at class 0 that of an image, later that of a relation with the empty word.
+fn may_be_kept(answer: &Answer, source: TailSource) -> bool
+    ensures { IsTrue result → MayBeKept answer.now (class_of answer.now) (source_of source) }
+{
+    let is_first = answer.class() == 0;
+    match source {
+        TailSource::Image(_) => is_first,
+        TailSource::Power(j) => !is_first && has_empty_word(answer, Relation::Power(j)),
+        TailSource::Commutator(j, i) => {
+            !is_first && has_empty_word(answer, Relation::Commutator(j, i))
+        }
+    }
+}
+
+/// Whether this is a relation of an answer, with the empty word.
+fn has_empty_word(answer: &Answer, relation: Relation) -> bool
+    ensures { IsTrue result → HasEmptySide answer.now (relation_source relation) }
+{
+    let pcp = answer.pcp();
+    is_relation(relation, pcp.rank()) && pcp.word(relation).is_empty()
+}
+
+fn show_step(alloc: Global, step: Option<Step>, out: &mut String) -> Result<()> {
     match step {
-        Step::Next(answer) => show_answer(alloc, answer, out)?,
-        Step::Same => writeln!(out, "    the same")?,
-        Step::TooLarge { rank } => writeln!(out, "    rank {rank} is too large")?,
+        Some(Step::Next(answer)) => show_answer(alloc, &answer, out)?,
+        Some(Step::Same) => writeln!(out, "    the same")?,
+        Some(Step::TooLarge { rank }) => writeln!(out, "    rank {rank} is too large")?,
+        None => writeln!(out, "    no step")?,
     }
     Ok(())
 }

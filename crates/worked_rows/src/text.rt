@@ -6,7 +6,7 @@ use std::fmt::Display;
 use std::str::FromStr;
 
 /// The most bytes of a text that are shown.
-const SHOWN: usize = 4_000;
+const SHOWN: usize = 8_000;
 
 /// A text in the making.
 #[derive(Drop)]

@@ -1,4 +1,0 @@
-pub mod ExponentRows
-pub mod FirstClass
-pub mod BasisOfSums
-pub mod Parts

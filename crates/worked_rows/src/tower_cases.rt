@@ -1,0 +1,201 @@
+//! Towers over the plain collector. Of the presentation that the text of the case is, `largest P C` is the largest quotient
+//! of p-class at most C, where it has no endomorphism, and `finite P C / RELATORS` that of the relators named, as `fixed 2,
+//! iterated 1`: the answer is how many rows each class added, and the quotient or the rank that is too large.
+
+ghost use Rattle.std.specs.Prelude.{◌≡◌, ◌≤◌, List, [], IfOk, IsTrue};
+ghost use Rattle.std.specs.List.{All};
+ghost use Rattle.pq_base.specs.Limits.{max_class};
+ghost use Rattle.derivation_log.specs.declared.source.Run.TheVariants.{Whole};
+ghost use Rattle.derivation_log.specs.HeldSteps.{HeldStep};
+ghost use Rattle.derivation_log.specs.RowCounts.{HasCounts};
+ghost use Rattle.tower.specs.NamedParts.{IsNamed};
+
+use crate::answer_cases::show_answer;
+use crate::cases::Cases;
+use crate::presentation_cases::{prime_of, read_short};
+use crate::text::{Text, halves, show_numbers};
+use anyhow::{Result, bail};
+use derivation_log::{RowCounts, Run};
+use lpres_reader::LPres;
+use pc_presentation::Answer;
+use plain_collector::Plain;
+use pq_base::limits::CLASS;
+use pq_base::{Path, Prime};
+use std::alloc::Global;
+use tower::{Relator, TowerRefusal, finite, largest};
+
+#[derive(Drop)]
+pub(crate) struct TowerCases {
+    alloc: Global,
+    text: Text,
+}
+
+impl Cases for TowerCases {
+    fn new(alloc: Global) -> TowerCases {
+        TowerCases {
+            alloc,
+            text: Text::new(alloc),
+        }
+    }
+
+    fn act(&mut self, verb: &str, rest: &str, out: &mut String) -> Result<()> {
+        if self.text.add(verb, rest)? {
+            return Ok(());
+        }
+        let Ok(pres) = read_short(self.alloc, self.text.bytes())? else {
+            bail!("no presentation");
+        };
+        match verb {
+            "largest" => show_largest(self.alloc, &pres, rest, out),
+            "finite" => show_finite(self.alloc, &pres, rest, out),
+            _ => bail!("no such verb"),
+        }
+    }
+}
+
+/// The class that a text is.
+fn class_of(text: &str) -> Result<u8>
+    ensures from_one { IfOk result (λ class. 1 ≤ class) }
+    ensures most { IfOk result (λ class. class ≤ max_class) }
+{
+    let class = text.trim().parse::<u8>()?;
+    if class == 0 || CLASS < class {
+        bail!("no class");
+    }
+    Ok(class)
+}
+
+fn show_largest(alloc: Global, pres: &LPres, rest: &str, out: &mut String) -> Result<()> {
+    let (prime, class) = halves(rest, " ")?;
+    let prime = prime_of(prime)?;
+    let class = class_of(class)?;
+    if !pres.endos().is_empty() {
+        bail!("with endomorphisms");
+    }
+    let mut log = RowCounts::new(alloc);
+    let answer = largest_of(alloc, pres, prime, class, &mut log);
+    show_tower(alloc, &log, answer, out)
+}
+
+/// The largest quotient of a presentation without endomorphisms. The log is told of each class.
+fn largest_of(
+    alloc: Global,
+    pres: &LPres,
+    prime: Prime,
+    class: u8,
+    log: &mut RowCounts,
+) -> Result<Answer, TowerRefusal>
+    requires endos { pres.now.endos ≡ [] }
+    requires from_one { 1 ≤ class }
+    requires most { class ≤ max_class }
+    requires empty { log.old.whole ≡ [] }
+{
+    largest::<Plain, RowCounts>(alloc, pres, prime, class, log)
+}
+
+fn show_finite(alloc: Global, pres: &LPres, rest: &str, out: &mut String) -> Result<()> {
+    let (head, names) = halves(rest, "/")?;
+    let (prime, class) = halves(head, " ")?;
+    let prime = prime_of(prime)?;
+    let class = class_of(class)?;
+    let relators = relators_of(alloc, names)?;
+    if !are_named(pres, &relators) {
+        bail!("no such relator");
+    }
+    let mut log = RowCounts::new(alloc);
+    let answer = finite_of(alloc, pres, &relators, prime, class, &mut log);
+    show_tower(alloc, &log, answer, out)
+}
+
+/// The largest quotient of the relators named. The log is told of each class.
+fn finite_of(
+    alloc: Global,
+    pres: &LPres,
+    relators: &[Relator],
+    prime: Prime,
+    class: u8,
+    log: &mut RowCounts,
+) -> Result<Answer, TowerRefusal>
+    requires named { All (IsNamed pres.now) relators.now }
+    requires from_one { 1 ≤ class }
+    requires most { class ≤ max_class }
+    requires empty { log.old.whole ≡ [] }
+{
+    finite::<Plain, RowCounts>(alloc, pres, relators, prime, class, log)
+}
+
+/// The relators that a text names.
+fn relators_of(alloc: Global, text: &str) -> Result<Vec<Relator>> {
+    let mut relators = Vec::new(alloc);
+    if text.is_empty() {
+        return Ok(relators);
+    }
+    for name in text.split(',') {
+        relators.push(relator_of(alloc, name)?)?;
+    }
+    Ok(relators)
+}
+
+fn relator_of(alloc: Global, name: &str) -> Result<Relator> {
+    let (kind, number) = halves(name.trim(), " ")?;
+    let number = number.parse::<u32>()?;
+    match kind {
+        "fixed" => Ok(Relator::Fixed(number)),
+        "iterated" => Ok(Relator::Iterated(number, Path::of(alloc, &[])?)),
+        _ => bail!("no relator"),
+    }
+}
+
+/// Whether these are relators of a presentation, along no endomorphism.
+fn are_named(pres: &LPres, relators: &[Relator]) -> bool
+    ensures { IsTrue result → All (IsNamed pres.now) relators.now }
+{
+    for relator in relators {
+        if !is_named(pres, relator) {
+            return false;
+        }
+    }
+    true
+}
+
+fn is_named(pres: &LPres, relator: &Relator) -> bool
+    ensures { IsTrue result → IsNamed pres.now relator.now }
+{
+    match relator {
+        Relator::Fixed(number) => 1 <= *number && *number as usize <= pres.fixed().len(),
+        Relator::Iterated(number, path) => {
+            1 <= *number && *number as usize <= pres.iterated().len() && path.numbers().is_empty()
+        }
+    }
+}
+
+/// Writes how many rows each class added, and the answer or the rank that is too large.
+fn show_tower(
+    alloc: Global,
+    log: &RowCounts,
+    answer: Result<Answer, TowerRefusal>,
+    out: &mut String,
+) -> Result<()> {
+    out.push_str("    rows")?;
+    show_numbers(out, log.of(Run::Whole))?;
+    out.push('\n')?;
+    match answer {
+        Ok(answer) => show_answer(alloc, &answer, out),
+        Err(TowerRefusal::TooLarge { part, class, rank }) => {
+            show_too_large(part, class, rank, out)
+        }
+        Err(TowerRefusal::NoMemory) => bail!("no memory"),
+    }
+}
+
+fn show_too_large(part: Run, class: u8, rank: u32, out: &mut String) -> Result<()> {
+    let part = match part {
+        Run::Iterated => "iterated part",
+        Run::Whole => "whole",
+    };
+    writeln!(
+        out,
+        "    rank {rank} is too large at class {class} of the {part}"
+    )?;
+    Ok(())
+}

@@ -24,7 +24,7 @@ use Rattle.pq_run.specs.Command.{CommandWords, Asks}
 use Rattle.pq_run.specs.Input.{IsWithin, IsAbove}
 use Rattle.pq_run.specs.Form.{quotient_command}
 use Rattle.pq_run.specs.Texts.{HasLargeRank}
-use Rattle.pq_run.specs.Built.{ReadsInput, IsGiven, IsTooLargeFor}
+use Rattle.pq_run.specs.Built.{ReadsInput, IsTooLargeFor}
 use Rattle.pq_run.specs.Refusals.{refusal_of_reading, refusal_of_tower}
 use Rattle.pq_run.specs.Streams.{Reading}
 use Rattle.pq_run.specs.Cause.{IsReadCause, IsTextCause, HasTextCause, IsInputCause, IsCause}

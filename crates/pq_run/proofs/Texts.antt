@@ -1,8 +1,7 @@
 -- A text is no presentation, or it reads as exactly one, which has endomorphisms, or a largest quotient of a rank above the limit, or
 -- neither; and where it has such a quotient, the first such class and its rank are determined.
-use Rattle.std.proofs.Common.{◌≡◌, ◌⊎◌, ◌<◌, ◌≤◌, ℕ, List, [], inl, inr, sym, ap, ◌∙◌, subst, arith}
+use Rattle.std.proofs.Common.{◌≡◌, ◌<◌, ℕ, List, [], ap, ◌∙◌, subst, arith}
 use native.Mathlib.Decide.{dec_lt}
-use Rattle.pq_base.specs.Limits.{max_rank}
 use Rattle.pq_base.specs.LPresentation.{LPresentation}
 use Rattle.pq_base.specs.Largest.{HasOrder}
 use Rattle.pq_base.proofs.tables.UniqueOrders.{orders_are_unique}

@@ -1,9 +1,8 @@
 -- The words and the bytes determine the first class whose rank is above the limit, and this rank.
-use Rattle.std.proofs.Common.{◌≡◌, ◌<◌, ℕ, List, sym, ◌∙◌, subst, arith}
+use Rattle.std.proofs.Common.{◌≡◌, ◌<◌, sym, ◌∙◌, subst, arith}
 use Rattle.pq_base.specs.declared.prime.Prime.{Prime}
 use Rattle.pq_base.specs.declared.prime.Prime.TheVariants.{P2, P3, P5, P7}
 use Rattle.pq_base.specs.Prime.{prime_value}
-use Rattle.pq_run.specs.declared.command.Command.{Command}
 use Rattle.pq_run.specs.Texts.{HasLargeRank}
 use Rattle.pq_run.specs.Built.{IsTooLargeFor, OneTooLarge}
 use Rattle.pq_run.proofs.Commands.{one_command, AtPrimeAndClass-both}

@@ -1,6 +1,6 @@
 -- What the text is refused for, the input is refused for.
 use Rattle.pq_base.specs.Prime.{prime_value}
-use Rattle.pq_run.proofs.Causes.{read_cause, text_causes}
+use Rattle.pq_run.proofs.Causes.{text_causes}
 use Rattle.pq_run.proofs.output.output_of_source.Goals as goal
 
 pub returns-clause-err : goal.returns-clause-err

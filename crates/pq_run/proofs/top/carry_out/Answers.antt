@@ -1,9 +1,7 @@
 -- Words that are no command, and commands that aren't built, are refused; and only where a command is built the source is read.
-use Rattle.std.proofs.Common.{refl}
 use Rattle.pq_run.specs.declared.form.Form.TheVariants.{Text, Json}
-use Rattle.pq_run.specs.declared.input.Input.TheVariants.{Presentation}
 use Rattle.pq_run.specs.declared.refusal.Refusal.TheVariants.{Words, UnbuiltCommand}
-use Rattle.pq_run.specs.Built.{IsUnbuilt, IsReading}
+use Rattle.pq_run.specs.Built.{IsUnbuilt}
 use Rattle.pq_run.proofs.Commands.{Asks-same}
 use Rattle.pq_run.proofs.QuotientCommands.{IsClass-quotient_command}
 use Rattle.pq_run.proofs.RefusalEnds.{refuses}

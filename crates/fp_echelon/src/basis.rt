@@ -89,30 +89,11 @@ impl Basis {
         ensures prime { self.new.prime ≡ self.old.prime }
         ensures width { self.new.width ≡ self.old.width }
     {
+        let rank = self.rank as usize;
         let _basis = self.rank();
         if row.is_zero() {
-            Insertion::Dependent
-        } else {
-            self.insert_reduced(row)
+            return Insertion::Dependent;
         }
-    }
-
-    /// Reduces a row by the basis, and inserts it unless nothing is left of it.
-    fn insert_reduced(&mut self, row: &Row) -> Insertion
-        requires spare { 1 ≤ self.old.spare }
-        requires prime { row.now.prime ≡ self.old.prime }
-        requires width { length row.now.entries ≡ self.old.width }
-        ensures basis { IsBasis self.new }
-        ensures dependent { IfDependent result (InSpan self.old.prime self.old.width self.old.added row.now.entries) }
-        ensures unchanged { IfDependent result (self.new ≡ self.old) }
-        ensures independent { IfAdded result (λ c. ¬ InSpan self.old.prime self.old.width self.old.added row.now.entries) }
-        ensures added { IfAdded result (λ c. self.new.added ≡ self.old.added ++ row.now.entries ∷ []) }
-        ensures pivot { IfAdded result (λ c. pivots_of self.new.rows ≡ pivots_of self.old.rows ++ c ∷ []) }
-        ensures spare { IfAdded result (λ c. self.new.spare + 1 ≡ self.old.spare) }
-        ensures prime { self.new.prime ≡ self.old.prime }
-        ensures width { self.new.width ≡ self.old.width }
-    {
-        let rank = self.rank as usize;
         match elimination::insert(&mut self.entries, rank, row) {
             None => Insertion::Dependent,
             Some(column) => {

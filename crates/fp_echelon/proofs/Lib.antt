@@ -24,3 +24,6 @@ pub mod ReduceMap
 pub mod OfferedInverses
 pub mod FoundRows
 pub mod BasisSpans
+pub mod MatrixLaws
+pub mod MatrixStorage
+pub mod FullRank

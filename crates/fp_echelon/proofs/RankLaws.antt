@@ -1,5 +1,5 @@
 -- A reduced basis has no two rows of one pivot, so it has at most as many rows as columns.
-use Rattle.std.proofs.Common.{◌≡◌, ◌≢◌, ℕ, suc, ◌+◌, ◌-◌, ◌<◌, ◌≤◌, ◌||◌, Bool, true, false, List, [], ◌∷◌, length, eqb, refl, ap, sym, ◌∙◌, subst, arith, ne_eqb}
+use Rattle.std.proofs.Common.{◌≡◌, ℕ, suc, ◌-◌, ◌<◌, ◌≤◌, ◌||◌, Bool, true, false, List, [], ◌∷◌, length, eqb, refl, ap, ◌∙◌, arith, ne_eqb}
 use borrow.Author.Tests.{eqb-true}
 use Rattle.std.specs.List.{IsDistinct, AllByRecursion, list_any}
 use Rattle.std.proofs.lemmas.Map.Keys.{IsDistinct-cons, IsDistinct-from_apart}
@@ -12,7 +12,7 @@ abbrev pub places : List BasisRow → List ℕ
 places [] = []
 places (b ∷ bs) = (b.pivot - 1) ∷ places bs
 
-length-places : (bs : List BasisRow) → length (places bs) ≡ length bs
+pub length-places : (bs : List BasisRow) → length (places bs) ≡ length bs
 length-places [] = refl
 length-places (b ∷ bs) = ap (λ (n : ℕ). suc n) (length-places bs)
 
@@ -31,17 +31,17 @@ other_pivots p width c [] reduced none first = tt
 other_pivots p width c (b ∷ bs) reduced none first =
     (other_pivot p width c b reduced.0 none.0 first, other_pivots p width c bs reduced.2 none.1 first)
 
-places_are_distinct : (p width : ℕ) (bs : List BasisRow) → IsReduced p width bs → IsDistinct eqb (places bs)
+pub places_are_distinct : (p width : ℕ) (bs : List BasisRow) → IsReduced p width bs → IsDistinct eqb (places bs)
 places_are_distinct p width [] reduced = IsDistinct-from_apart eqb [] (λ i j d h h'. absurd (omega arith))
 places_are_distinct p width (b ∷ bs) reduced =
     IsDistinct-cons eqb (b.pivot - 1) (places bs) (other_pivots p width b.pivot bs reduced.2 reduced.1.others reduced.0.last.column.first)
     (places_are_distinct p width bs reduced.2)
 
-either : (a b : Bool) (P : Type 0) → (a ≡ true → P) → (b ≡ true → P) → (a || b) ≡ true → P
+pub either : (a b : Bool) (P : Type 0) → (a ≡ true → P) → (b ≡ true → P) → (a || b) ≡ true → P
 either true b P f g h = f refl
 either false b P f g h = g h
 
-places-below : (p width : ℕ) (bs : List BasisRow) (q : ℕ) → IsReduced p width bs → list_any (eqb q) (places bs) ≡ true → q < width
+pub places-below : (p width : ℕ) (bs : List BasisRow) (q : ℕ) → IsReduced p width bs → list_any (eqb q) (places bs) ≡ true → q < width
 places-below p width [] q reduced h = cc
 places-below p width (b ∷ bs) q reduced h =
     let least = reduced.0.last.column.first in

@@ -4,4 +4,6 @@ pub mod Reduction
 pub mod Basis
 pub mod Slots
 pub mod Inserted
+pub mod Matrix
 pub mod Laws
+pub mod MatrixLaws

@@ -1,6 +1,7 @@
-//! Laws of spans and reduced bases: each function does nothing, and its clause is a theorem.
+//! Laws of spans, reduced bases and matrices: each function does nothing, and its clause is a theorem.
 
 ghost use Rattle.fp_echelon.specs.Laws.{BasesSpanTheAddedRows, RepresentativesAreUnique, RowsOfTheSpanReduceToZero, ReducedBasesOfOneSpanAreEqual, EverySpanHasAReducedBasis};
+ghost use Rattle.fp_echelon.specs.MatrixLaws.{MatricesAreLinear, MatricesCarrySpans};
 
 /// A basis spans exactly what the rows that were added to it span.
 #[tactic(auto, using(crate::proofs::BasisLaws::basis_spans))]
@@ -29,4 +30,16 @@ pub fn reduced_bases_of_one_span_are_equal()
 #[tactic(auto, using(crate::proofs::SpanTheorems::every_span_has_a_reduced_basis))]
 pub fn every_span_has_a_reduced_basis()
     ensures { EverySpanHasAReducedBasis }
+{}
+
+/// To multiply rows by a square matrix is a linear map of the rows of its width.
+#[tactic(auto, using(crate::proofs::MatrixLaws::matrices_are_linear))]
+pub fn matrices_are_linear()
+    ensures { MatricesAreLinear }
+{}
+
+/// A matrix carries a span into another where it carries each of the rows that span it there.
+#[tactic(auto, using(crate::proofs::MatrixLaws::matrices_carry_spans))]
+pub fn matrices_carry_spans()
+    ensures { MatricesCarrySpans }
 {}

@@ -1,9 +1,8 @@
 //! Square matrices.
 
-ghost use Rattle.std.specs.Prelude.{◌≡◌, ◌≤◌, ◌<◌, ◌-◌, [], IfOk, length, map, replicate, get_or, slice_set};
+ghost use Rattle.std.specs.Prelude.{◌≡◌, ◌≤◌, ◌-◌, [], IfOk, length, replicate, get_or, slice_set};
 ghost use Rattle.pq_base.specs.Prime.{prime_value};
 ghost use Rattle.pq_base.specs.Elementary.{zeros};
-ghost use Rattle.fp_rows.specs.Row.{PrimeRow};
 ghost use Rattle.fp_echelon.specs.Matrix.{IsMatrix, times_matrix, entries_of, HoldsMatrix};
 
 use fp_rows::Row;

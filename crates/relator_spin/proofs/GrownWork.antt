@@ -1,14 +1,13 @@
 -- What stays where new rows come after those there were: places, spans and the images that lie in them.
 use Rattle.std.proofs.Common.{◌≡◌, ℕ, suc, ◌+◌, ◌<◌, ◌≤◌, ⊎_elim, List, [], ◌∷◌, ◌++◌, length, get_or, refl, ap, sym, ◌∙◌, subst, arith, append_assoc}
 use Rattle.std.proofs.lemmas.List.{append-nil, get_or_append_left}
-use Rattle.fp_rows.specs.Row.{PrimeRow}
 use Rattle.fp_echelon.specs.Span.{AreRows, InSpan}
 use Rattle.fp_echelon.specs.Reduced.{pivots_of}
 use Rattle.fp_echelon.specs.Basis.{Echelon, IsBasis}
 use Rattle.fp_echelon.specs.Matrix.{PrimeMatrix, times_matrix}
 use Rattle.relator_spin.specs.declared.spun.Spun.{Spun}
 use Rattle.relator_spin.specs.Closure.{matrix_at}
-use Rattle.relator_spin.specs.Spinning.{Spinning, IsReady, IsOffered, HasGrown, ImagesInSpan}
+use Rattle.relator_spin.specs.Spinning.{Spinning, IsOffered, HasGrown, ImagesInSpan}
 use Rattle.relator_spin.proofs.SpanParts.{InSpan-longer}
 
 pub HasGrown-self : (w : Spinning) → HasGrown w w

@@ -1,12 +1,12 @@
 -- What an insertion makes of the work: a row is added under a name, or was in the span.
-use Rattle.std.proofs.Common.{◌≡◌, ℕ, ◌+◌, ◌<◌, ◌≤◌, inl, inr, List, [], ◌∷◌, ◌++◌, length, get_or, refl, ap, sym, ◌∙◌, subst, arith, length-append}
+use Rattle.std.proofs.Common.{◌≡◌, ℕ, ◌+◌, ◌<◌, inl, inr, List, [], ◌∷◌, ◌++◌, length, get_or, refl, ap, sym, ◌∙◌, arith}
 use Rattle.std.proofs.lemmas.List.{get_or_default, length_push}
 use Rattle.fp_rows.specs.Row.{PrimeRow}
 use Rattle.fp_echelon.specs.Span.{InSpan}
 use Rattle.fp_echelon.specs.Reduced.{pivots_of}
 use Rattle.fp_echelon.specs.Basis.{Echelon, IsBasis}
 use Rattle.relator_spin.specs.declared.spun.Spun.{Spun}
-use Rattle.relator_spin.specs.Spinning.{Spinning, IsReady, no_spun, IsOffered}
+use Rattle.relator_spin.specs.Spinning.{IsReady, no_spun, IsOffered}
 
 -- the parts of the work, before and after an insertion
 module _ (older : ℕ) (b d : Echelon) (names : List Spun) (image after : PrimeRow) (x : List ℕ) (s : Spun)

@@ -1,5 +1,5 @@
 -- Rows in a span, place by place, and spans of more rows.
-use Rattle.std.proofs.Common.{◌≡◌, ℕ, zero, suc, ◌<◌, List, [], ◌∷◌, ◌++◌, length, get_or, subst, arith, length-append}
+use Rattle.std.proofs.Common.{ℕ, zero, suc, ◌<◌, List, [], ◌∷◌, ◌++◌, length, get_or, subst, arith, length-append}
 use Rattle.std.proofs.lemmas.List.{get_or_append_left}
 use Rattle.fp_rows.specs.Rows.{IsRow}
 use Rattle.fp_echelon.specs.Span.{AreRows, InSpan, EachInSpan}

@@ -1,6 +1,6 @@
 //! A closure while it is made.
 
-ghost use Rattle.std.specs.Prelude.{◌≡◌, ◌≤◌, ◌<◌, ◌+◌, ◌-◌, ◌^◌, [], ◌∷◌, ℕ, List, IfOk, OnOk, length, get_or};
+ghost use Rattle.std.specs.Prelude.{◌≡◌, ◌≤◌, ◌<◌, ◌+◌, ◌^◌, [], ◌∷◌, ℕ, List, IfOk, OnOk, length, get_or};
 ghost use Rattle.fp_rows.specs.Row.{PrimeRow};
 ghost use Rattle.fp_echelon.specs.Span.{EachInSpan};
 ghost use Rattle.fp_echelon.specs.Matrix.{PrimeMatrix, times_matrix, entries_of};

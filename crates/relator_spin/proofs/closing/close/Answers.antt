@@ -1,4 +1,4 @@
-use Rattle.std.proofs.Common.{◌≡◌, ◌∙◌, ◌-◌, ap, sym, subst, length, max}
+use Rattle.std.proofs.Common.{◌∙◌, ◌-◌, ap, sym, subst, length, max}
 use Rattle.fp_echelon.specs.Basis.{Echelon}
 use Rattle.relator_spin.specs.Closure.{IsClosed}
 use Rattle.relator_spin.specs.Spinning.{Spinning}

@@ -1,4 +1,4 @@
-use Rattle.std.proofs.Common.{◌≡◌, ◌∷◌, ◌++◌, [], ◌≤◌, ℕ, List, length, sym, ◌∙◌, subst, arith}
+use Rattle.std.proofs.Common.{◌≤◌, ℕ, List, length, sym, ◌∙◌, subst, arith}
 use Rattle.fp_rows.specs.Rows.{IsRow}
 use Rattle.fp_echelon.specs.Span.{InSpan}
 use Rattle.fp_echelon.proofs.SpanLaws.{InSpan-last}

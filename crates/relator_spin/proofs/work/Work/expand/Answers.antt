@@ -1,4 +1,4 @@
-use Rattle.std.proofs.Common.{◌≡◌, ◌+◌, ◌∷◌, ℕ, get_or, ap, sym, ◌∙◌, add-one}
+use Rattle.std.proofs.Common.{◌+◌, ◌∷◌, ℕ, get_or, ap, sym, ◌∙◌, add-one}
 use Rattle.fp_echelon.specs.Matrix.{PrimeMatrix}
 use Rattle.relator_spin.specs.declared.spun.Spun.{Spun}
 use Rattle.relator_spin.specs.Spinning.{no_spun}

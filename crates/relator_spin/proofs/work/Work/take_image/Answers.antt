@@ -1,4 +1,4 @@
-use Rattle.std.proofs.Common.{◌≡◌, ◌+◌, ◌-◌, ◌<◌, ◌∷◌, ◌++◌, [], ℕ, List, length, get_or, ap, ap₂, sym, ◌∙◌, subst, arith}
+use Rattle.std.proofs.Common.{◌≡◌, ◌+◌, ◌-◌, ◌<◌, ◌∷◌, ◌++◌, [], ℕ, List, length, get_or, ap, sym, ◌∙◌, subst, arith}
 use Rattle.fp_rows.specs.Row.{PrimeRow}
 use Rattle.fp_echelon.specs.Matrix.{PrimeMatrix, IsMatrix, times_matrix}
 use Rattle.fp_echelon.proofs.SpanLaws.{IsRow-combine}

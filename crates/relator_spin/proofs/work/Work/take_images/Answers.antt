@@ -1,4 +1,4 @@
-use Rattle.std.proofs.Common.{◌≡◌, ◌<◌, length, ap, arith}
+use Rattle.std.proofs.Common.{◌≡◌, length, ap, arith}
 use Rattle.relator_spin.specs.Spinning.{Spinning}
 use Rattle.relator_spin.proofs.WorkLoops.{AllImagesTaken-none, AllImagesTaken-more}
 use Rattle.relator_spin.proofs.work.Work.take_images.Goals as goal

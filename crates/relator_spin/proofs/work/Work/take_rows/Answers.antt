@@ -1,4 +1,4 @@
-use Rattle.std.proofs.Common.{◌≡◌, ◌+◌, [], ℕ, length, refl, ap, sym, ◌∙◌, arith}
+use Rattle.std.proofs.Common.{◌+◌, [], length, refl, ap, sym, ◌∙◌, arith}
 use Rattle.fp_rows.specs.Row.{PrimeRow}
 use Rattle.relator_spin.proofs.WorkLoops.{AreOver-at, RowsTaken-none, RowsTaken-more, RowsTaken-all}
 use Rattle.relator_spin.proofs.work.Work.take_rows.Goals as goal

@@ -2,7 +2,7 @@
 -- overlap. So the row is justified wherever that word has value 0.
 use Rattle.std.proofs.Common.{◌≡◌, ◌≤◌, ◌-◌, ℕ, zero, suc, ℤ, List, [], ◌∷◌, ◌++◌, get_or, length, refl, ap, sym, ◌∙◌, subst, arith, inr}
 use Rattle.pq_base.specs.SignedWord.{sub, HasLetters}
-use Rattle.pq_base.specs.LPresentation.{LPresentation, IsLPresentation, IsRelator}
+use Rattle.pq_base.specs.LPresentation.{LPresentation, IsLPresentation, IsRelator, AreEndos}
 use Rattle.pq_base.specs.LPresentation.IsRelator.{fixed_relator, iterated_relator}
 use Rattle.pq_base.specs.Table.{Table, value}
 use Rattle.pq_base.specs.Joined.{Joined}
@@ -21,6 +21,7 @@ use Rattle.p_cover.specs.RowedAnswer.{rowed, rowed_images, tails_word}
 use Rattle.p_cover.specs.Covers.{CoverOf, IsCover, cover_presentation, rowed_cover}
 use Rattle.p_cover.proofs.CoverRows.{covers_are_rowed_answers}
 use Rattle.p_cover.proofs.ImageValues.{row_of_word-joined}
+use Rattle.p_cover.proofs.ImagesAlong.{row_along-joined}
 use Rattle.cover_quotient.specs.Fits.{IsJustified}
 use Rattle.derivation_log.specs.declared.source.RowSource.{RowSource}
 use Rattle.derivation_log.specs.declared.source.RowSource.TheVariants.{Test, Fixed, Iterated}
@@ -49,6 +50,9 @@ module _ (C : CoverOf) (cover : IsCover C) (push : State → ℕ → State) (mea
     letters : (w : List ℤ) → HasLetters (length L.names) w → HasLetters (length C.answer.names) w
     letters w l = subst (λ (ns : List (List ℕ)). HasLetters (length ns) w) (sym names) l
 
+    endos_of : AreEndos (length C.answer.names) L.endos
+    endos_of = subst (λ (ns : List (List ℕ)). AreEndos (length ns) L.endos) (sym names) is.endo_words
+
     pub row_of_source-joined : (s : RowSource) (x : List ℕ) → IsRowOf L C push s x
         → Joined (flat (rowed (rowed_cover C))) (sub (source_word L s) (rowed_images (rowed_cover C))) (tails_word (rowed_cover C) x)
     row_of_source-joined (Test o) x h = joined-sym (row_of_overlap-trivial L o x h.numbers h.row)
@@ -56,7 +60,11 @@ module _ (C : CoverOf) (cover : IsCover C) (push : State → ℕ → State) (mea
         row_of_word-joined C cover push meaning (source_word L (Fixed i)) (letters (source_word L (Fixed i)) (source_word-letters L is (Fixed i))) x h.row
     row_of_source-joined (Iterated i []) x h =
         row_of_word-joined C cover push meaning (source_word L (Iterated i [])) (letters (source_word L (Iterated i [])) (source_word-letters L is (Iterated i []))) x h.row
-    row_of_source-joined (Iterated i (e ∷ s)) x h = absurd h.row
+    row_of_source-joined (Iterated i (e ∷ s)) x h =
+        let a = h.numbers in
+        let relator : List ℤ = get_or L.iterated (i - 1) [] in
+        row_along-joined C cover push meaning L.endos endos_of (e ∷ s) a.2 relator
+        (letters relator (HasLetters-get_or (length L.names) L.iterated (i - 1) is.iterated_words)) x h.row
 
     pub row_of_source-justified : (T : Table) (f : List ℕ) (s : RowSource) (x : List ℕ) → value T f (source_word L s) ≡ 0 → IsRowOf L C push s x
         → IsJustified (rowed_cover C) T f x

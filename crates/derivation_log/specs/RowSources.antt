@@ -10,6 +10,7 @@ use Rattle.pc_presentation.specs.Collection.{State}
 use Rattle.pc_presentation.specs.Tailed.{rowed_presentation}
 use Rattle.p_cover.specs.Covers.{CoverOf, cover_presentation}
 use Rattle.p_cover.specs.ImageValues.{IsRowOfWord}
+use Rattle.p_cover.specs.ImagesAlong.{IsRowAlongEndos}
 use Rattle.derivation_log.specs.declared.source.RowSource.{RowSource}
 use Rattle.derivation_log.specs.declared.source.RowSource.TheVariants.{Test, Fixed, Iterated}
 
@@ -30,16 +31,16 @@ pub record IsRowOfOverlap (C : CoverOf) (push : State → ℕ → State) (o : Ov
   pub agree : ExponentsAgree (rowed_presentation (cover_presentation C)) push (overlap_of o)
   pub row : x ≡ overlap_row (rowed_presentation (cover_presentation C)) push (overlap_of o)
 
--- the row of a word along a path. Rows are not taken along endomorphisms, so only the empty path has one
-abbrev pub IsRowAlong : CoverOf → (State → ℕ → State) → List ℕ → List ℤ → List ℕ → Type 0
-IsRowAlong C push [] w x = IsRowOfWord C push w x
-IsRowAlong C push (e ∷ s) w x = ⊥
+-- the row of a word along a path: with the empty path its own row, and else its row under the images carried along the path
+abbrev pub IsRowAlong : List (List (List ℤ)) → CoverOf → (State → ℕ → State) → List ℕ → List ℤ → List ℕ → Type 0
+IsRowAlong endos C push [] w x = IsRowOfWord C push w x
+IsRowAlong endos C push (e ∷ s) w x = IsRowAlongEndos C push endos (e ∷ s) w x
 
 -- the row that pushes give for an overlap or a relator
 abbrev pub IsRowFrom : LPresentation → CoverOf → (State → ℕ → State) → RowSource → List ℕ → Type 0
 IsRowFrom L C push (Test o) x = IsRowOfOverlap C push o x
 IsRowFrom L C push (Fixed i) x = IsRowOfWord C push (get_or L.fixed (i - 1) []) x
-IsRowFrom L C push (Iterated i s) x = IsRowAlong C push s (get_or L.iterated (i - 1) []) x
+IsRowFrom L C push (Iterated i s) x = IsRowAlong L.endos C push s (get_or L.iterated (i - 1) []) x
 
 -- the row that pushes give for a source whose numbers are in range
 pub record IsRowOf (L : LPresentation) (C : CoverOf) (push : State → ℕ → State) (s : RowSource) (x : List ℕ) : Type 0 where

@@ -11,15 +11,15 @@ use Rattle.p_cover.specs.Covers.{CoverOf, all_sources, cover_presentation}
 use Rattle.p_cover.specs.Images.{ImagesOf, lifted_images}
 use Rattle.p_cover.specs.ImageValues.{value_under}
 
-abbrev plain_value : CoverOf → ImagesOf → List ℤ → State
+abbrev pub plain_value : CoverOf → ImagesOf → List ℤ → State
 plain_value C f w = value_under C (plain_push (rowed_presentation (cover_presentation C))) f w
 
 -- tails for [a3,a1], [a3,a2], a3^2, a1^2 and a2^2
-abbrev cover_of_order_eight : CoverOf
+abbrev pub cover_of_order_eight : CoverOf
 cover_of_order_eight = record { answer = answer_of_order_eight; sources = all_sources answer_of_order_eight }
 
 -- x and y are a1 and a2, and their inverses a1 and a2 with the tails of their squares
-abbrev images_of_order_eight : ImagesOf
+abbrev pub images_of_order_eight : ImagesOf
 images_of_order_eight = record {
   elements = lifted_images cover_of_order_eight;
   inverses =

@@ -1,1 +1,2 @@
 pub mod RelatorRows
+pub mod Rooms

@@ -4,7 +4,11 @@
 //! have rows, and that rows of two collectors differ by trivial ones.
 #![tactic(auto)]
 
+pub mod along;
 pub mod laws;
 pub mod relator;
+pub mod work;
 
+pub use along::row_along;
 pub use relator::relator_row;
+pub use work::Work;

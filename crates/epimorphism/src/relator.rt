@@ -56,7 +56,7 @@ pub fn relator_row<C: Collect>(
 }
 
 /// Whether an element lies in the tails alone. If so the row becomes its tails, and otherwise zero.
-fn take_tails(element: &Elem, row: &mut Row) -> bool
+pub(crate) fn take_tails(element: &Elem, row: &mut Row) -> bool
     requires prime { row.old.prime ≡ element.now.prime }
     requires width { length row.old.entries ≡ length element.now.state.row }
     ensures prime { row.new.prime ≡ row.old.prime }

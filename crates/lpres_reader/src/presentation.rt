@@ -188,7 +188,7 @@ impl LPres {
     }
 
     /// The images of the generators under the endomorphism with this number, counted from 1.
-    pub(crate) fn endo(&self, number: u8) -> &[Word]
+    pub fn endo(&self, number: u8) -> &[Word]
         requires { AreEndoNumbers (length self.now.endos) (number ∷ []) }
         ensures images { result.now ≡ endo_at self.now.endos number }
         ensures words { AreWords (length self.now.names) result.now }

@@ -13,6 +13,7 @@ pub mod GivenSteps
 pub mod LiftedImages
 pub mod ImageStates
 pub mod ImageValues
+pub mod ImagesAlong
 pub mod ImageInverses
 pub mod ListPairs
 pub mod WantParts

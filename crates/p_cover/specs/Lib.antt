@@ -3,6 +3,7 @@ pub mod Sources
 pub mod Covers
 pub mod Images
 pub mod ImageValues
+pub mod ImagesAlong
 pub mod RowedLaws
 pub mod ImageTails
 pub mod Wanted

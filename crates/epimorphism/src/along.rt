@@ -85,8 +85,8 @@ fn carry<C: Collect>(s: &mut Scratch<C>, work: &mut Work, cover: &Cover, pres: &
     ensures carried { let Y = rowed_presentation (cover_presentation cover.now) in
         AreCarried cover.now (C.meaning Y) pres.now.endos work.old.first along.now work.new.first }
 {
-    for number in along {
-        compose(s, cover, &work.first, pres.endo(*number), &mut work.second);
+    for i in 0..along.len() {
+        compose(s, cover, &work.first, pres.endo(along[i]), &mut work.second);
         work.exchange();
     }
 }

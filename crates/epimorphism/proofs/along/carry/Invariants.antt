@@ -7,10 +7,10 @@ use Rattle.p_cover.specs.ImagesAlong.{AreCarried}
 use Rattle.epimorphism.specs.Rooms.{IsWork}
 use Rattle.epimorphism.proofs.along.carry.Given as goal
 
-abbrev pub invariant-loop-number : goal.invariant-loop-number
-invariant-loop-number g l =
+abbrev pub invariant-loop-i : goal.invariant-loop-i
+invariant-loop-i g l =
     let T = cover_presentation l.cover in
     let push = g.C.Collect.meaning (rowed_presentation T) in
     IsScratch T l.s × IsWork l.cover l.work
     × AreImageElements T push l.work.first.elements l.work.first.inverses
-    × AreCarried l.cover push l.pres.endos l.initial.work.first (take l.number-index l.along) l.work.first
+    × AreCarried l.cover push l.pres.endos l.initial.work.first (take l.i l.along) l.work.first

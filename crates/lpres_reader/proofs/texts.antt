@@ -13,3 +13,4 @@ pub mod LineRuns
 pub mod Depths
 pub mod Exponents
 pub mod FrontLemmas
+pub mod PlainFronts

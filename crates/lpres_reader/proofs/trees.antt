@@ -11,3 +11,4 @@ pub mod FormSteps
 pub mod StepRuns
 pub mod MeaningLetters
 pub mod Leads
+pub mod PlainForms

@@ -11,6 +11,7 @@ use indexmap::IndexSet;
 use pq_base::Name;
 
 /// The place of a generator's name, counted from 0.
+#[inline(always)]
 pub(crate) fn place_of(names: &IndexSet<Name>, text: &[u8]) -> Option<usize>
     requires { AreGenerators names.now.keys }
     ensures place { result ≡ place_of names.now.keys text.now }

@@ -44,6 +44,8 @@ impl Named {
     }
 
     /// The presentation that a line makes of this one.
+    // Never inlined: where it is, each skipped line costs as much as a call of all that reads a line.
+    #[inline(never)]
     pub(crate) fn with_line(self, alloc: Global, line: &[u8]) -> Result<Named, Stop>
         ensures { MatchResult result (Makes (Some self) line.now) (Refuses (λ k. LineFault (Some self) line.now (kind_of k))) }
     {

@@ -13,6 +13,7 @@ ghost use Rattle.lpres_reader.specs.Forms.{Found, form, unit_form, outer_form, b
 
 use crate::fault::{Kind, Stop};
 use crate::known::are_known;
+use crate::plain::passed_over;
 use crate::token::{Symbol, Token, next_name, next_token};
 use indexmap::IndexSet;
 use pq_base::Name;
@@ -290,7 +291,7 @@ pub(crate) fn check_form(alloc: Global, names: &IndexSet<Name>, line: &[u8]) -> 
     while let Some((token, after)) = next_token(rest)? {
         so_far = step(alloc, so_far, token)?;
         known = are_known(names, known, token);
-        rest = after;
+        rest = passed_over(names, so_far.stage, after);
     }
     if is_whole(so_far) {
         Ok(known)

@@ -57,8 +57,9 @@ fn symbol_of(byte: u8) -> Option<Symbol>
     }
 }
 
+/// How many bytes at the front of a line may stand in a name.
 #[tactic(auto, using(crate::proofs::texts::LineLemmas::prefix_le))]
-fn name_length(line: &[u8]) -> usize
+pub(crate) fn name_length(line: &[u8]) -> usize
     ensures length { result ≡ prefix_len is_name_byte line.now }
     ensures within { result ≤ length line.now }
 {

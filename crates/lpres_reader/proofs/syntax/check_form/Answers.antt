@@ -6,7 +6,8 @@ use Rattle.lpres_reader.specs.Forms.{first_form, form_step}
 use Rattle.lpres_reader.proofs.texts.FrontLemmas.{rest_is_shorter}
 use Rattle.lpres_reader.proofs.texts.LineTokens.{none_left}
 use Rattle.lpres_reader.proofs.faults.Refusing.{refuses_map, found_refuses}
-use Rattle.lpres_reader.proofs.names.KnownRuns.{knows_first, known_next, known_end}
+use Rattle.lpres_reader.proofs.names.KnownRuns.{KnownSoFar, knows_first, known_next, known_end}
+use Rattle.lpres_reader.proofs.trees.PlainForms.{form_passes, known_passes, passes_within}
 use Rattle.lpres_reader.proofs.trees.FormRuns.{form_first, form_next, form_whole, no_form_unnamed, no_form_first, no_form_at_token, no_form_behind, no_form_here}
 use Rattle.lpres_reader.proofs.syntax.check_form.Goals as goal
 
@@ -19,14 +20,17 @@ loop-so_far-init c = record {
 pub loop-so_far-smaller : goal.loop-so_far-smaller
 loop-so_far-smaller c =
     let here = rw c.in-Some.is at c.in_ok-token.ensures in
-    rest_is_shorter c.loop-so_far.rest.now c.in-Some.after.now (token_of c.in-Some.token) here
+    let shorter = rest_is_shorter c.loop-so_far.rest.now c.in-Some.after.now (token_of c.in-Some.token) here in
+    passes_within c.args.names.now.keys c.in-Some.after.now c.passed_over-rest.result.now c.in_ok-so_far-2.so_far.stage c.passed_over-rest.ensures shorter
 
 pub loop-so_far-preserved : goal.loop-so_far-preserved
 loop-so_far-preserved c =
     let here = rw c.in-Some.is at c.in_ok-token.ensures in
+    let form = form_next c.args.line.now c.loop-so_far.rest.now c.in-Some.after.now c.loop-so_far.so_far c.in_ok-so_far-2.so_far (token_of c.in-Some.token) c.loop-so_far.invariant.form here c.in_ok-so_far-2.ensures in
+    let known : KnownSoFar c.args.names.now.keys c.in_ok-keyword.behind.now c.in-Some.after.now c.are_known-known.result = rw c.are_known-known.ensures (known_next c.args.names.now.keys c.in_ok-keyword.behind.now c.loop-so_far.rest.now c.in-Some.after.now (token_of c.in-Some.token) c.loop-so_far.known _ c.loop-so_far.invariant.known here refl) in
     record {
-      form = form_next c.args.line.now c.loop-so_far.rest.now c.in-Some.after.now c.loop-so_far.so_far c.in_ok-so_far-2.so_far (token_of c.in-Some.token) c.loop-so_far.invariant.form here c.in_ok-so_far-2.ensures;
-      known = rw c.are_known-known.ensures (known_next c.args.names.now.keys c.in_ok-keyword.behind.now c.loop-so_far.rest.now c.in-Some.after.now (token_of c.in-Some.token) c.loop-so_far.known _ c.loop-so_far.invariant.known here refl);
+      form = form_passes c.args.names.now.keys c.args.line.now c.in-Some.after.now c.passed_over-rest.result.now c.in_ok-so_far-2.so_far c.passed_over-rest.ensures form;
+      known = known_passes c.args.names.now.keys c.in_ok-keyword.behind.now c.in-Some.after.now c.passed_over-rest.result.now c.in_ok-so_far-2.so_far.stage c.are_known-known.result c.passed_over-rest.ensures known;
     }
 
 pub returns-in_err-keyword : goal.returns-in_err-keyword

@@ -1,0 +1,13 @@
+pub mod RangedWords
+pub mod RowedImages
+pub mod CoverWords
+pub mod ImageRows
+pub mod FullCovers
+pub mod LightCovers
+pub mod RowLists
+pub mod EntryImages
+pub mod MatrixLaws
+pub mod ValueLaws
+pub mod RightSides
+pub mod SpelledValues
+pub mod ValueRows

@@ -1,12 +1,23 @@
 -- Named relators are words over the generators, and the relators of the presentation that has them alone.
-use Rattle.std.proofs.Common.{ℕ, ◌<◌, ℤ, List, [], ◌∷◌, get_or, length, map, ap, sym, ◌∙◌, subst, arith}
+use Rattle.std.proofs.Common.{◌≡◌, ℕ, ◌<◌, ℤ, List, [], ◌∷◌, get_or, length, map, ap, sym, ◌∙◌, subst, arith}
 use Rattle.std.specs.List.{All, Contains}
-use Rattle.std.proofs.lemmas.List.{length-map, get_or-map}
+use Rattle.std.proofs.lemmas.List.{length-map, get_or-map, get_or_default}
+use Rattle.pq_base.specs.SignedWord.{HasLetters}
 use Rattle.pq_base.specs.LPresentation.{LPresentation, IsLPresentation, IsRelator, AreWords}
 use Rattle.pq_base.specs.LPresentation.IsRelator.{fixed_relator, iterated_relator}
+use Rattle.pq_base.proofs.words.LetterLaws.{HasLetters-get_or}
 use Rattle.derivation_log.proofs.RowSources.{source_word-letters}
 use Rattle.tower.specs.declared.relator.Relator.{Relator}
 use Rattle.tower.specs.NamedParts.{named_word, named_part, recorded_source}
+
+-- a word of a list of words, by its place
+pub listed-word : (ws vs : List (List ℤ)) (i : ℕ) (w : List ℤ) → vs ≡ ws → i < length vs → w ≡ get_or vs i w → get_or ws i [] ≡ w
+listed-word ws vs i w same l is = sym (is ∙ get_or_default vs i w [] l ∙ ap (λ (us : List (List ℤ)). get_or us i []) same)
+
+pub listed-letters : (n : ℕ) (names : List (List ℕ)) (ws vs : List (List ℤ)) (i : ℕ) (w : List ℤ) → n ≡ length names → AreWords n ws → vs ≡ ws
+    → i < length vs → w ≡ get_or vs i w → HasLetters (length names) w
+listed-letters n names ws vs i w count words same l is =
+    subst (λ (m : ℕ). HasLetters m w) count (subst (HasLetters n) (listed-word ws vs i w same l is) (HasLetters-get_or n ws i words))
 
 named-words : (L : LPresentation) → IsLPresentation L → (rs : List Relator) → AreWords (length L.names) (map (named_word L) rs)
 named-words L is [] = tt

@@ -6,22 +6,22 @@ use Rattle.pq_base.specs.LPresentation.{LPresentation, IsRelator, AreEndoNumbers
 use Rattle.pq_base.specs.LPresentation.IsRelator.{fixed_relator, iterated_relator}
 use Rattle.pq_base.specs.Answer.{Answer}
 use Rattle.pq_base.specs.Canonical.{numbers_from}
-use Rattle.pq_base.specs.Laws.{HaveSameQuotients}
+use Rattle.pq_base.specs.Relators.{HasSameRelators}
 use Rattle.pq_base.proofs.ListMembers.{In, In-append_left, In-append_right, In-append_cases, In-get_or, In-map, In-map_cases, In-numbers, numbers-range, Contains-from_In}
-use Rattle.pq_base.proofs.SameRelators.{same-relators_turned, same_relators_give_same_quotients}
+use Rattle.pq_base.proofs.SameRelators.{same-relators_turned, same-obeys}
 use Rattle.tower.specs.declared.relator.Relator.{Relator}
 use Rattle.tower.specs.declared.relator.Relator.TheVariants.{Fixed, Iterated}
-use Rattle.tower.specs.NamedParts.{named_word, IsNamed, NamesAll, iterated_at, all_named, named_part}
-use Rattle.tower.specs.Answers.{IsQuotient, IsTooLarge}
+use Rattle.tower.specs.NamedParts.{named_word, IsNamed, IsUncarried, NamesAll, iterated_at, all_named, named_part}
+use Rattle.tower.specs.Answers.{IsQuotient}
 use Rattle.derivation_log.specs.declared.source.Run.{Run}
 use Rattle.tower.specs.declared.refusal.TowerRefusal.{TowerRefusal}
-use Rattle.tower.specs.declared.refusal.TowerRefusal.TheVariants.{TooLarge, NoMemory}
 use Rattle.tower.specs.Refusals.{IsRefusalOf}
-use Rattle.tower.specs.QuotientLaws.{SameRelatorsGiveSameAnswers, AllNumbersNameAll, NamedPartsHaveTheRelators, NamedPartsHaveTheAnswers}
+use Rattle.tower.specs.QuotientLaws.{AreObeyedAlike, SameRelatorsGiveSameAnswers, AllNumbersNameAll, NamedPartsHaveTheRelators, NamedPartsHaveTheAnswers}
 use Rattle.tower.proofs.NamedLaws.{named-relator, named-all}
+use Rattle.tower.proofs.ObeyedAlike.{presentations_obeyed_alike_have_same_answers, refusal-of_same}
 
 -- a named relator is one
-named-is : (L : LPresentation) (r : Relator) → IsNamed L r → IsRelator L (named_word L r)
+pub named-is : (L : LPresentation) (r : Relator) → IsNamed L r → IsRelator L (named_word L r)
 named-is L (Fixed i) h =
     let first = h.0 in
     let last = h.1 in
@@ -29,7 +29,7 @@ named-is L (Fixed i) h =
 named-is L (Iterated i s) h =
     let first = h.0 in
     let last = h.1 in
-    subst (λ (t : List ℕ). IsRelator L (along L.endos t (get_or L.iterated (i - 1) []))) (sym h.2) (iterated_relator [] (i - 1) tt (omega arith))
+    iterated_relator s (i - 1) h.2 (omega arith)
 
 -- without endomorphisms there is no number of one
 no_numbers : (s : List ℕ) → AreEndoNumbers 0 s → s ≡ []
@@ -42,13 +42,13 @@ relator-named : (L : LPresentation) (rs : List Relator) → L.endos ≡ [] → N
 relator-named L rs none all w (fixed_relator i l) =
     let one : suc i - 1 ≡ i = omega arith in
     subst (λ (k : ℕ). IsRelator (named_part L rs) (get_or L.fixed k [])) one
-    (named-relator L rs (Fixed (suc i)) (all.every (Fixed (suc i)) (omega arith, omega arith)))
+    (named-relator L rs (Fixed (suc i)) (all.every (Fixed (suc i)) (omega arith, omega arith) tt))
 relator-named L rs none all w (iterated_relator s i numbers l) =
     let one : suc i - 1 ≡ i = omega arith in
     let empty : s ≡ [] = no_numbers s (subst (λ (endos : List (List (List ℤ))). AreEndoNumbers (length endos) s) none numbers) in
     subst (λ (t : List ℕ). IsRelator (named_part L rs) (along L.endos t (get_or L.iterated i []))) (sym empty)
     (subst (λ (k : ℕ). IsRelator (named_part L rs) (get_or L.iterated k [])) one
-    (named-relator L rs (Iterated (suc i) []) (all.every (Iterated (suc i) []) (omega arith, omega arith, refl))))
+    (named-relator L rs (Iterated (suc i) []) (all.every (Iterated (suc i) []) (omega arith, omega arith, tt) refl)))
 
 pub named_parts_have_the_relators : NamedPartsHaveTheRelators
 named_parts_have_the_relators L rs none all = record {
@@ -59,67 +59,51 @@ named_parts_have_the_relators L rs none all = record {
   );
 }
 
-named-every : (L : LPresentation) (r : Relator) → IsNamed L r → In r (all_named L)
-named-every L (Fixed i) h =
+named-every : (L : LPresentation) (r : Relator) → IsNamed L r → IsUncarried r → In r (all_named L)
+named-every L (Fixed i) h none =
     let last = h.1 in
     In-append_left (Fixed i) (map Fixed (numbers_from 1 (length L.fixed))) (map iterated_at (numbers_from 1 (length L.iterated)))
     (In-map Fixed i (numbers_from 1 (length L.fixed)) (In-numbers 1 (length L.fixed) i h.0 (omega arith)))
-named-every L (Iterated i s) h =
+named-every L (Iterated i s) h none =
     let last = h.1 in
-    subst (λ (t : List ℕ). In (Iterated i t) (all_named L)) (sym h.2)
+    subst (λ (t : List ℕ). In (Iterated i t) (all_named L)) (sym none)
     (In-append_right (Iterated i []) (map Fixed (numbers_from 1 (length L.fixed))) (map iterated_at (numbers_from 1 (length L.iterated)))
     (In-map iterated_at i (numbers_from 1 (length L.iterated)) (In-numbers 1 (length L.iterated) i h.0 (omega arith))))
 
-named-only : (L : LPresentation) (r : Relator) → In r (all_named L) → IsNamed L r
+named-only : (L : LPresentation) (r : Relator) → In r (all_named L) → IsNamed L r × IsUncarried r
 named-only L r h =
     elim (In-append_cases r (map Fixed (numbers_from 1 (length L.fixed))) (map iterated_at (numbers_from 1 (length L.iterated))) h) [
       | inl fixed ↦
           let made = In-map_cases Fixed r (numbers_from 1 (length L.fixed)) fixed in
           let range = numbers-range 1 (length L.fixed) made.source made.member in
           let last = range.1 in
-          subst (IsNamed L) made.made (range.0, omega arith)
+          subst (λ (x : Relator). IsNamed L x × IsUncarried x) made.made ((range.0, omega arith), tt)
       | inr iterated ↦
           let made = In-map_cases iterated_at r (numbers_from 1 (length L.iterated)) iterated in
           let range = numbers-range 1 (length L.iterated) made.source made.member in
           let last = range.1 in
-          subst (IsNamed L) made.made (range.0, omega arith, refl)
+          subst (λ (x : Relator). IsNamed L x × IsUncarried x) made.made ((range.0, omega arith, tt), refl)
     ]
 
 pub all_numbers_name_all : AllNumbersNameAll
 all_numbers_name_all L = record {
-  only = λ i d l. named-only L (get_or (all_named L) i d) (In-get_or (all_named L) i d l);
-  every = λ r h. Contains-from_In r (all_named L) (named-every L r h);
+  only = λ i d l. (named-only L (get_or (all_named L) i d) (In-get_or (all_named L) i d l)).0;
+  uncarried = λ i d l. (named-only L (get_or (all_named L) i d) (In-get_or (all_named L) i d l)).1;
+  every = λ r h none. Contains-from_In r (all_named L) (named-every L r h none);
 }
 
--- quotients and refusals are a matter of the relators
-module _ (L M : LPresentation) (same : HaveSameQuotients L M) where
-  same-quotient : (p c : ℕ) (A : Answer) → IsQuotient L p c A → IsQuotient M p c A
-  same-quotient p c A is = record {
-    largest = (same.largest p c A).0 is.largest;
-    cuts = λ j l. (same.largest p j _).0 (is.cuts j l);
-    canonical = is.canonical;
-    class = is.class;
-    exact = is.exact;
-    small = λ k r l big order. is.small k r l big ((same.orders p k r).1 order);
-  }
-
-  same-refusal : (p c k r : ℕ) → IsTooLarge L p c k r → IsTooLarge M p c k r
-  same-refusal p c k r is = record {
-    first = is.first;
-    last = is.last;
-    large = is.large;
-    order = (same.orders p k r).0 is.order;
-    before = λ j s l big order. is.before j s l big ((same.orders p j s).1 order);
-  }
+-- presentations with the same relators are obeyed alike in every class
+same-alike : (L M : LPresentation) (p c : ℕ) → HasSameRelators L M → AreObeyedAlike L M p c
+same-alike L M p c same = record {
+  names = same.names;
+  obeyed = λ T f group class. (same-obeys M L (same-relators_turned L M same) T f, same-obeys L M same T f);
+}
 
 pub same_relators_give_same_answers : SameRelatorsGiveSameAnswers
-same_relators_give_same_answers L M same =
-    let forth = same_relators_give_same_quotients L M same in
-    let back = same_relators_give_same_quotients M L (same-relators_turned L M same) in
-    record {
-      quotients = λ p c A. (same-quotient L M forth p c A, same-quotient M L back p c A);
-      refusals = λ p c k r. (same-refusal L M forth p c k r, same-refusal M L back p c k r);
-    }
+same_relators_give_same_answers L M same = record {
+  quotients = λ p c A. (presentations_obeyed_alike_have_same_answers L M p c (same-alike L M p c same)).quotients A;
+  refusals = λ p c k r. (presentations_obeyed_alike_have_same_answers L M p c (same-alike L M p c same)).refusals k r;
+}
 
 pub named_parts_have_the_answers : NamedPartsHaveTheAnswers
 named_parts_have_the_answers L rs none all =
@@ -131,6 +115,8 @@ quotient-of_all L p c A none is = ((named_parts_have_the_answers L (all_named L)
 
 pub refusal-of_all : (L : LPresentation) (p c : ℕ) (run : Run) (e : TowerRefusal) → L.endos ≡ [] → IsRefusalOf (named_part L (all_named L)) p c run e
     → IsRefusalOf L p c run e
-refusal-of_all L p c run (TooLarge part k rank) none is =
-    (is.0, ((named_parts_have_the_answers L (all_named L) none (all_numbers_name_all L)).refusals p c k rank).1 is.1)
-refusal-of_all L p c run NoMemory none is = tt
+refusal-of_all L p c run e none is =
+    let M : LPresentation = named_part L (all_named L) in
+    refusal-of_same L M p c run e
+    (presentations_obeyed_alike_have_same_answers L M p c
+    (same-alike L M p c (named_parts_have_the_relators L (all_named L) none (all_numbers_name_all L)))) is

@@ -1,7 +1,10 @@
 pub mod NamedParts
 pub mod StepRows
+pub mod SpunParts
+pub mod Closing
 pub mod Answers
 pub mod QuotientLaws
 pub mod LoggedSteps
 pub mod LoggedRuns
 pub mod Refusals
+pub mod TwoRuns

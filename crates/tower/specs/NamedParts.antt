@@ -3,7 +3,7 @@
 use Rattle.std.specs.Prelude.{◌≡◌, ◌≤◌, ℕ, ℤ, List, [], ◌++◌, length, map}
 use Rattle.std.specs.List.{All, Contains}
 use Rattle.pq_base.specs.SignedWord.{sub}
-use Rattle.pq_base.specs.LPresentation.{LPresentation}
+use Rattle.pq_base.specs.LPresentation.{LPresentation, AreEndoNumbers}
 use Rattle.pq_base.specs.Joined.{Joined}
 use Rattle.pq_base.specs.Answer.{Answer, image_words}
 use Rattle.pq_base.specs.Canonical.{numbers_from}
@@ -22,19 +22,25 @@ recorded_source (Iterated i s) = IteratedSource i s
 abbrev pub named_word : LPresentation → Relator → List ℤ
 named_word L r = source_word L (recorded_source r)
 
--- a relator of the presentation that is carried along no endomorphism
+-- a relator of the presentation: a fixed one, or an iterated one along a path of its endomorphisms
 abbrev pub IsNamedSource : LPresentation → RowSource → Type 0
 IsNamedSource L (TestSource o) = ⊥
 IsNamedSource L (FixedSource i) = (1 ≤ i) × (i ≤ length L.fixed)
-IsNamedSource L (IteratedSource i s) = (1 ≤ i) × (i ≤ length L.iterated) × (s ≡ [])
+IsNamedSource L (IteratedSource i s) = (1 ≤ i) × (i ≤ length L.iterated) × AreEndoNumbers (length L.endos) s
 
 abbrev pub IsNamed : LPresentation → Relator → Type 0
 IsNamed L r = IsNamedSource L (recorded_source r)
 
--- the list names each of them, and nothing else
+-- the relator is carried along no endomorphism
+abbrev pub IsUncarried : Relator → Type 0
+IsUncarried (Fixed i) = Unit {0}
+IsUncarried (Iterated i s) = s ≡ []
+
+-- the list names each relator that is carried along no endomorphism, and nothing else
 pub record NamesAll (L : LPresentation) (relators : List Relator) : Type 0 where
   pub only : All (IsNamed L) relators
-  pub every : (r : Relator) → IsNamed L r → Contains relators r
+  pub uncarried : All IsUncarried relators
+  pub every : (r : Relator) → IsNamed L r → IsUncarried r → Contains relators r
 
 -- an iterated relator along no endomorphism
 abbrev pub iterated_at : ℕ → Relator

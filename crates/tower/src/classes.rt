@@ -19,6 +19,7 @@ use crate::relator::{Relator, sources};
 use crate::rows::Rows;
 use class_step::{Step, eliminate};
 use derivation_log::{Log, Run};
+use epimorphism::Work;
 use lpres_reader::LPres;
 use p_cover::{Cover, Images};
 use pc_presentation::{Collect, Scratch};
@@ -74,7 +75,8 @@ fn rows_of_class<C: Collect + Drop>(
     let sources = sources(alloc, relators)?;
     let mut s = Scratch::<C>::new(alloc, cover.pcp())?;
     let images = Images::lift(alloc, &mut s, cover)?;
+    let mut work = Work::new(alloc, cover)?;
     rows.insert_overlaps(&mut s, cover);
-    rows.insert_relators(&mut s, cover, &images, pres, sources);
+    rows.insert_relators(&mut s, &mut work, cover, &images, pres, sources);
     Ok(rows)
 }

@@ -1,18 +1,25 @@
 //! The tower: the largest quotients of a presented group, class after class. The rows of one class, of its overlaps and of relators
-//! by number, are found and inserted one after the other.
+//! by number, are found and inserted one after the other. Where iterated relators are carried along endomorphisms, few of them are
+//! recorded in each class, which say as much as all.
 #![tactic(auto)]
 
+pub mod ascent;
 mod classes;
+mod closing;
+mod finding;
 pub mod laws;
+mod lifts;
 mod overlaps;
 pub mod refusal;
 pub mod relator;
 mod relators;
 mod rows;
 pub mod runs;
+mod spun_classes;
 pub mod whole;
 
+pub use ascent::ascending;
 pub use refusal::TowerRefusal;
 pub use relator::Relator;
 pub use runs::finite;
-pub use whole::largest;
+pub use whole::{largest, with_fixed};

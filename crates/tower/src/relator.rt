@@ -2,12 +2,10 @@
 
 ghost use Rattle.std.specs.Prelude.{◌≡◌, ◌++◌, map, IfOk, OnOk};
 ghost use Rattle.pq_base.specs.Canonical.{numbers_from};
-ghost use Rattle.derivation_log.specs.RowSources.{source_word};
 ghost use Rattle.tower.specs.declared.relator.Relator.TheVariants.{Fixed};
-ghost use Rattle.tower.specs.NamedParts.{IsNamedSource, recorded_source, iterated_at, all_named};
+ghost use Rattle.tower.specs.NamedParts.{recorded_source, iterated_at, all_named};
 
 use derivation_log::RowSource;
-use free_words::Word;
 use lpres_reader::LPres;
 use pq_base::{NoMemory, Path};
 use std::alloc::Global;
@@ -31,6 +29,19 @@ impl Relator {
             Relator::Iterated(number, path) => {
                 let path = Path::of(alloc, path.numbers())?;
                 Ok(RowSource::Iterated(*number, path))
+            }
+        }
+    }
+
+    /// A copy of the relator.
+    pub fn duplicate(&self, alloc: Global) -> Result<Relator, NoMemory>
+        ensures { IfOk result (λ copy. copy ≡ self.now) }
+    {
+        match self {
+            Relator::Fixed(number) => Ok(Relator::Fixed(*number)),
+            Relator::Iterated(number, path) => {
+                let path = Path::of(alloc, path.numbers())?;
+                Ok(Relator::Iterated(*number, path))
             }
         }
     }
@@ -59,7 +70,7 @@ pub(crate) fn all_relators(alloc: Global, pres: &LPres) -> Result<Vec<Relator>, 
 }
 
 /// Puts so many fixed relators at the end.
-fn push_fixed(relators: &mut Vec<Relator>, count: u32) -> Result<(), NoMemory>
+pub(crate) fn push_fixed(relators: &mut Vec<Relator>, count: u32) -> Result<(), NoMemory>
     ensures { OnOk result (relators.new.items ≡ relators.old.items ++ map Fixed (numbers_from 1 count)) }
 {
     for i in 0..count {
@@ -76,16 +87,4 @@ fn push_iterated(alloc: Global, relators: &mut Vec<Relator>, count: u32) -> Resu
         relators.push(Relator::Iterated(i + 1, Path::of(alloc, &[])?))?;
     }
     Ok(())
-}
-
-/// The word of a relator that is carried along no endomorphism.
-pub(crate) fn word<'a>(source: &RowSource, pres: &'a LPres) -> &'a Word
-    requires { IsNamedSource pres.now source.now }
-    ensures { result.now ≡ source_word pres.now source.now }
-{
-    match source {
-        RowSource::Test(_overlap) => unreachable!(),
-        RowSource::Fixed(number) => &pres.fixed()[*number as usize - 1],
-        RowSource::Iterated(number, _path) => &pres.iterated()[*number as usize - 1],
-    }
 }

@@ -24,8 +24,9 @@ use pc_presentation::{Answer, Collect};
 use pq_base::{NoMemory, Prime};
 use std::alloc::Global;
 
-/// The largest quotient of the group of the relators named, of p-class at most so much, in its canonical form. `TooLarge` comes at
-/// the first class whose largest quotient has a rank above 100, and only there.
+/// The largest quotient of the group of the relators named, of p-class at most so much, in its canonical form. A relator is a fixed
+/// one, or an iterated one along a list of endomorphisms. `TooLarge` comes at the first class whose largest quotient has a rank
+/// above 100, and only there.
 ///
 /// The log is told of the step of each class of the run `Whole`, of which it holds none before. After `Ok` it holds one for each
 /// class up to the one asked for, or to the first that kept no tail; after a refusal it holds those that were done.

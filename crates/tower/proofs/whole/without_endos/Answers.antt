@@ -9,7 +9,7 @@ use Rattle.tower.specs.Answers.{IsQuotient}
 use Rattle.tower.specs.Refusals.{IsRefusalOf}
 use Rattle.tower.proofs.LoggedRuns.{holds-wanting_first}
 use Rattle.tower.proofs.NamedQuotients.{all_numbers_name_all, quotient-of_all, refusal-of_all}
-use Rattle.tower.proofs.whole.largest.Goals as goal
+use Rattle.tower.proofs.whole.without_endos.Goals as goal
 
 pub returns-in_err-relators-clause-refused : goal.returns-in_err-relators-clause-refused
 returns-in_err-relators-clause-refused g c kept =

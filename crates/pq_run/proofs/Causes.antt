@@ -7,19 +7,18 @@ use Rattle.pq_base.specs.declared.prime.Prime.{Prime}
 use Rattle.pq_base.specs.Prime.{prime_value}
 use Rattle.pq_base.specs.LPresentation.{LPresentation}
 use Rattle.derivation_log.specs.declared.source.Run.{Run}
-use Rattle.derivation_log.specs.declared.source.Run.TheVariants.{Whole}
 use Rattle.lpres_reader.specs.declared.refusal.ReadRefusal.{ReadRefusal}
 use Rattle.lpres_reader.specs.declared.refusal.ReadRefusal.TheVariants as reading
 use Rattle.lpres_reader.specs.Reads.{Reads}
 use Rattle.lpres_reader.specs.Refusals.{IsRefusedBy}
 use Rattle.tower.specs.declared.refusal.TowerRefusal.{TowerRefusal}
 use Rattle.tower.specs.declared.refusal.TowerRefusal.TheVariants as tower
-use Rattle.tower.specs.Refusals.{IsRefusalOf}
+use Rattle.tower.specs.TwoRuns.{IsRefusalOfWhole}
 use Rattle.pq_run.specs.declared.form.Form.{Form}
 use Rattle.pq_run.specs.declared.input.Input.{Input}
 use Rattle.pq_run.specs.declared.input.Input.TheVariants.{Presentation}
 use Rattle.pq_run.specs.declared.refusal.Refusal.{Refusal}
-use Rattle.pq_run.specs.declared.refusal.Refusal.TheVariants.{Words, UnbuiltCommand, UnbuiltEndos, ReadFault, InputTooLong, Text, TooLarge, NoMemory}
+use Rattle.pq_run.specs.declared.refusal.Refusal.TheVariants.{Words, UnbuiltCommand, ReadFault, InputTooLong, Text, TooLarge, NoMemory}
 use Rattle.pq_run.specs.Command.{CommandWords, Asks}
 use Rattle.pq_run.specs.Input.{IsWithin, IsAbove}
 use Rattle.pq_run.specs.Form.{quotient_command}
@@ -34,17 +33,15 @@ pub reading_cause : (p c : ℕ) (text : List ℕ) (e : ReadRefusal) → IsRefuse
 reading_cause p c text (reading.Text fault) first = first
 reading_cause p c text reading.NoMemory first = tt
 
-pub tower_cause : (p c : ℕ) (text : List ℕ) (L : LPresentation) (e : TowerRefusal) → Reads text L → L.endos ≡ [] → IsRefusalOf L p c Whole e
+pub tower_cause : (p c : ℕ) (text : List ℕ) (L : LPresentation) (e : TowerRefusal) → Reads text L → IsRefusalOfWhole L p c e
     → IsTextCause p c text (refusal_of_tower e)
-tower_cause p c text L (tower.TooLarge part k rank) reads none cause =
-    (cause.0, record { presentation = L; reads = reads; endos = none; large = cause.1 })
-tower_cause p c text L tower.NoMemory reads none cause = tt
+tower_cause p c text L (tower.TooLarge part k rank) reads cause = record { presentation = L; reads = reads; large = cause }
+tower_cause p c text L tower.NoMemory reads cause = tt
 
 -- what an input is refused for before its text is read
 pub read_cause : (p c : ℕ) (r : Reading) (refusal : Refusal) → IsReadCause Presentation r refusal → IsInputCause p c r refusal
 read_cause p c r Words cause = absurd cause
 read_cause p c r UnbuiltCommand cause = absurd cause
-read_cause p c r UnbuiltEndos cause = absurd cause
 read_cause p c r ReadFault cause = cause
 read_cause p c r (InputTooLong input) cause = cause
 read_cause p c r (Text fault) cause = absurd cause
@@ -63,7 +60,6 @@ module _ (p c : ℕ) (text : List ℕ) (r : Reading) (within : IsWithin Presenta
   text_cause : (refusal : Refusal) → IsTextCause p c text refusal → IsInputCause p c r refusal
   text_cause Words cause = absurd cause
   text_cause UnbuiltCommand cause = absurd cause
-  text_cause UnbuiltEndos cause = has_text_cause UnbuiltEndos cause
   text_cause ReadFault cause = absurd cause
   text_cause (InputTooLong other) cause = absurd cause
   text_cause (Text fault) cause = has_text_cause (Text fault) cause
@@ -83,22 +79,20 @@ module _ (words : List (List ℕ)) (p : Prime) (c : ℕ) (form : Form) (spelled 
   asks_presentation : Asks (ReadsInput Presentation) words
   asks_presentation = (quotient_command p c form, spelled, reads_presentation)
 
-  asks_too_large : (part : Run) (k rank : ℕ) (bytes : List ℕ) → IsWithin Presentation bytes × ((part ≡ Whole) × HasLargeRank (prime_value p) c k rank bytes)
+  asks_too_large : (part : Run) (k rank : ℕ) (bytes : List ℕ) → IsWithin Presentation bytes × HasLargeRank (prime_value p) c part k rank bytes
       → Asks (IsTooLargeFor part k rank bytes) words
   asks_too_large part k rank bytes cause = (
     quotient_command p c form,
     spelled,
     (
       (reads_presentation, cause.0),
-      cause.1.0,
-      AtPrimeAndClass-quotient_command (λ q d. HasLargeRank q d k rank bytes) p c form cause.1.1,
+      AtPrimeAndClass-quotient_command (λ q d. HasLargeRank q d part k rank bytes) p c form cause.1,
     ),
   )
 
   pub input_cause : (r : Reading) (refusal : Refusal) → IsInputCause (prime_value p) c r refusal → IsCause words r refusal
   input_cause r Words cause = absurd cause
   input_cause r UnbuiltCommand cause = absurd cause
-  input_cause r UnbuiltEndos cause = (asks_presentation, cause)
   input_cause r ReadFault cause = ((quotient_command p c form, spelled, (Presentation, reads_presentation)), cause)
   input_cause r (InputTooLong input) cause = (
     subst (λ (x : Input). Asks (ReadsInput x) words) (sym cause.0) asks_presentation,

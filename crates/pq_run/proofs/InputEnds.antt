@@ -1,6 +1,5 @@
--- How a command ends that reads an input, where the source tells it. The input is too long, or no presentation, or one with
--- endomorphisms, or one of a rank that is too large, or answered, and at most one of these; so it decides the end, unless a device
--- fails or memory is wanting.
+-- How a command ends that reads an input, where the source tells it. The input is too long, or no presentation, or one of a rank that
+-- is too large, or answered, and at most one of these; so it decides the end, unless a device fails or memory is wanting.
 use Rattle.std.proofs.Common.{◌≡◌, ◌⊎◌, ℕ, List, Option, Some, None, IfSome, inl, inr, refl, subst}
 use Rattle.pq_base.specs.declared.status.Status.{Status}
 use Rattle.pq_base.specs.declared.status.Status.TheVariants as status
@@ -9,18 +8,18 @@ use Rattle.pq_io.specs.Faults.{Rose}
 use Rattle.pq_run.specs.declared.command.Command.{Command}
 use Rattle.pq_run.specs.declared.input.Input.TheVariants.{Presentation}
 use Rattle.pq_run.specs.declared.refusal.Refusal.{Refusal}
-use Rattle.pq_run.specs.declared.refusal.Refusal.TheVariants.{Words, UnbuiltCommand, UnbuiltEndos, ReadFault, InputTooLong, Text, TooLarge, NoMemory}
+use Rattle.pq_run.specs.declared.refusal.Refusal.TheVariants.{Words, UnbuiltCommand, ReadFault, InputTooLong, Text, TooLarge, NoMemory}
 use Rattle.pq_run.specs.Command.{Asks}
 use Rattle.pq_run.specs.Input.{IsAbove, IsWithin}
-use Rattle.pq_run.specs.Texts.{IsReadable, HasEndos, HasLargeRank, HasSmallRanks, HasFault}
-use Rattle.pq_run.specs.Built.{IsBuilt, IsUnbuilt, IsTooLong, IsGiven, IsBadText, HasUnbuiltEndos, IsTooLargeFor, IsTooLarge, IsAnswered}
+use Rattle.pq_run.specs.Texts.{IsReadable, HasLargeRank, HasSmallRanks, HasFault}
+use Rattle.pq_run.specs.Built.{IsBuilt, IsUnbuilt, IsTooLong, IsGiven, IsBadText, IsTooLargeFor, IsTooLarge, IsAnswered}
 use Rattle.pq_run.specs.Refusals.{refusal_status}
 use Rattle.pq_run.specs.Streams.{Reading, Writing}
 use Rattle.pq_run.specs.Cause.{IsCause}
 use Rattle.pq_run.specs.Ends.{Ends, IsDecided}
 use Rattle.pq_run.specs.Ends.Ends.{done, cut, refused}
 use Rattle.pq_run.proofs.Commands.{Asks-words, Asks-weaker, Asks-apart, AtPrimeAndClass-gives, AtPrimeAndClass-both, unbuilt-not_built, too_long-not_given}
-use Rattle.pq_run.proofs.Texts.{HasFault-unreadable, HasEndos-HasLargeRank, HasEndos-HasSmallRanks, HasLargeRank-HasSmallRanks}
+use Rattle.pq_run.proofs.Texts.{HasFault-unreadable, HasLargeRank-HasSmallRanks}
 
 -- what an input is given for
 module _ (bytes : List ℕ) where
@@ -29,19 +28,12 @@ module _ (bytes : List ℕ) where
 
   large-readable : (c : Command) → IsTooLarge bytes c → IsReadable bytes
   large-readable c is =
-      AtPrimeAndClass-gives (λ p d. HasLargeRank p d is.1 is.2 bytes) (IsReadable bytes) (λ p d h. (h.presentation, h.reads)) c is.3.2
-
-  endos-small : (c : Command) → HasEndos bytes → IsAnswered bytes c → ⊥
-  endos-small c has is = AtPrimeAndClass-gives (λ p d. HasSmallRanks p d bytes) ⊥ (λ p d h. HasEndos-HasSmallRanks p d bytes has h) c is.1
-
-  endos-large : (c : Command) → HasEndos bytes → IsTooLarge bytes c → ⊥
-  endos-large c has is =
-      AtPrimeAndClass-gives (λ p d. HasLargeRank p d is.1 is.2 bytes) ⊥ (λ p d h. HasEndos-HasLargeRank p d is.1 is.2 bytes has h) c is.3.2
+      AtPrimeAndClass-gives (λ p d. HasLargeRank p d is.0 is.1 is.2 bytes) (IsReadable bytes) (λ p d h. (h.presentation, h.reads)) c is.3.1
 
   large-small : (c : Command) → IsTooLarge bytes c → IsAnswered bytes c → ⊥
   large-small c large small =
-      AtPrimeAndClass-both (λ p d. HasLargeRank p d large.1 large.2 bytes) (λ p d. HasSmallRanks p d bytes) ⊥
-      (λ p d h s. HasLargeRank-HasSmallRanks (prime_value p) d large.1 large.2 bytes h s) c large.3.2 small.1
+      AtPrimeAndClass-both (λ p d. HasLargeRank p d large.0 large.1 large.2 bytes) (λ p d. HasSmallRanks p d bytes) ⊥
+      (λ p d h s. HasLargeRank-HasSmallRanks (prime_value p) d large.0 large.1 large.2 bytes h s) c large.3.1 small.1
 
 -- the ends, each with what it says of the input and of the counts of faults
 data InputEnd (words : List (List ℕ)) (bytes : List ℕ) (r : Reading) (w : Writing) (end : Status) : Type 0 where
@@ -49,7 +41,6 @@ data InputEnd (words : List (List ℕ)) (bytes : List ℕ) (r : Reading) (w : Wr
   part : end ≡ status.WriteFault → Asks (IsAnswered bytes) words → Rose w.before w.after → InputEnd words bytes r w end
   long : end ≡ status.InputTooLong → Asks (IsTooLong bytes) words → InputEnd words bytes r w end
   faulty : end ≡ status.BadText → Asks (IsBadText bytes) words → InputEnd words bytes r w end
-  carried : end ≡ status.NotBuilt → Asks (HasUnbuiltEndos bytes) words → InputEnd words bytes r w end
   large : end ≡ status.TooLarge → Asks (IsTooLarge bytes) words → InputEnd words bytes r w end
   unread : end ≡ status.ReadFault → Rose r.before r.after → InputEnd words bytes r w end
   wanting : end ≡ status.NoMemory → InputEnd words bytes r w end
@@ -61,9 +52,6 @@ module _ (words : List (List ℕ)) (bytes : List ℕ) (r : Reading) (w : Writing
   refused_end : (refusal : Refusal) → Asks IsBuilt words → IsCause words r refusal → end ≡ refusal_status refusal → InputEnd words bytes r w end
   refused_end Words ask cause is = absurd (cause (Asks-words IsBuilt words ask))
   refused_end UnbuiltCommand ask cause is = absurd (Asks-apart IsUnbuilt IsBuilt words unbuilt-not_built cause ask)
-  refused_end UnbuiltEndos ask cause is =
-      let has = here (λ b. IsWithin Presentation b × HasEndos b) cause.1 in
-      carried is (cause.0.0, cause.0.1, ((cause.0.2, has.0), has.1))
   refused_end ReadFault ask cause is = unread is cause.1
   refused_end (InputTooLong input) ask cause is = long is (cause.0.0, cause.0.1, (input, cause.0.2, here (IsAbove input) cause.1))
   refused_end (Text fault) ask cause is =
@@ -92,23 +80,11 @@ module _ (words : List (List ℕ)) (bytes : List ℕ) (r : Reading) (w : Writing
   long-large : Asks (IsTooLong bytes) words → Asks (IsTooLarge bytes) words → ⊥
   long-large = apart (IsTooLarge bytes) (λ c k. k.3.0)
 
-  long-endos : Asks (IsTooLong bytes) words → Asks (HasUnbuiltEndos bytes) words → ⊥
-  long-endos = apart (HasUnbuiltEndos bytes) (λ c k. k.0)
-
   bad-answered : Asks (IsBadText bytes) words → Asks (IsAnswered bytes) words → ⊥
   bad-answered bad a = bad.2.1 (small-readable bytes a.0 a.2)
 
   bad-large : Asks (IsBadText bytes) words → Asks (IsTooLarge bytes) words → ⊥
   bad-large bad a = bad.2.1 (large-readable bytes a.0 a.2)
-
-  bad-endos : Asks (IsBadText bytes) words → Asks (HasUnbuiltEndos bytes) words → ⊥
-  bad-endos bad a = bad.2.1 (a.2.1.0, a.2.1.1)
-
-  endos-answered : Asks (HasUnbuiltEndos bytes) words → Asks (IsAnswered bytes) words → ⊥
-  endos-answered has a = endos-small bytes a.0 has.2.1 a.2
-
-  endos-too_large : Asks (HasUnbuiltEndos bytes) words → Asks (IsTooLarge bytes) words → ⊥
-  endos-too_large has a = endos-large bytes a.0 has.2.1 a.2
 
   large-answered : Asks (IsTooLarge bytes) words → Asks (IsAnswered bytes) words → ⊥
   large-answered = Asks-apart (IsTooLarge bytes) (IsAnswered bytes) words (large-small bytes)
@@ -118,7 +94,6 @@ module _ (words : List (List ℕ)) (bytes : List ℕ) (r : Reading) (w : Writing
   long_end (part is a rose) h = absurd (long-answered h a)
   long_end (long is _) h = inl is
   long_end (faulty is bad) h = absurd (long-bad h bad)
-  long_end (carried is has) h = absurd (long-endos h has)
   long_end (large is too) h = absurd (long-large h too)
   long_end (unread is rose) h = inr (inl is)
   long_end (wanting is) h = inr (inr is)
@@ -128,27 +103,15 @@ module _ (words : List (List ℕ)) (bytes : List ℕ) (r : Reading) (w : Writing
   bad_end (part is a rose) h = absurd (bad-answered h a)
   bad_end (long is too) h = absurd (long-bad too h)
   bad_end (faulty is _) h = inl is
-  bad_end (carried is has) h = absurd (bad-endos h has)
   bad_end (large is too) h = absurd (bad-large h too)
   bad_end (unread is rose) h = inr (inl is)
   bad_end (wanting is) h = inr (inr is)
-
-  endos_end : InputEnd words bytes r w end → Asks (HasUnbuiltEndos bytes) words → IsDecided status.NotBuilt end
-  endos_end (whole is a) h = absurd (endos-answered h a)
-  endos_end (part is a rose) h = absurd (endos-answered h a)
-  endos_end (long is too) h = absurd (long-endos too h)
-  endos_end (faulty is bad) h = absurd (bad-endos bad h)
-  endos_end (carried is _) h = inl is
-  endos_end (large is too) h = absurd (endos-too_large h too)
-  endos_end (unread is rose) h = inr (inl is)
-  endos_end (wanting is) h = inr (inr is)
 
   large_end : InputEnd words bytes r w end → Asks (IsTooLarge bytes) words → IsDecided status.TooLarge end
   large_end (whole is a) h = absurd (large-answered h a)
   large_end (part is a rose) h = absurd (large-answered h a)
   large_end (long is too) h = absurd (long-large too h)
   large_end (faulty is bad) h = absurd (bad-large bad h)
-  large_end (carried is has) h = absurd (endos-too_large has h)
   large_end (large is _) h = inl is
   large_end (unread is rose) h = inr (inl is)
   large_end (wanting is) h = inr (inr is)
@@ -159,7 +122,6 @@ module _ (words : List (List ℕ)) (bytes : List ℕ) (r : Reading) (w : Writing
   answered_end (part is a rose) h steady firm = absurd (firm rose)
   answered_end (long is too) h steady firm = absurd (long-answered too h)
   answered_end (faulty is bad) h steady firm = absurd (bad-answered bad h)
-  answered_end (carried is has) h steady firm = absurd (endos-answered has h)
   answered_end (large is too) h steady firm = absurd (large-answered too h)
   answered_end (unread is rose) h steady firm = absurd (steady rose)
   answered_end (wanting is) h steady firm = inr is
@@ -178,11 +140,6 @@ module _ (words : List (List ℕ)) (r : Reading) (w : Writing) (end : Status) (e
   bad_text-ends = told r.left (λ bytes. Asks (IsBadText bytes) words → IsDecided status.BadText end)
       (λ bytes is_left h. bad_end words bytes r w end is_left
       (input_end words bytes r w end is_left ends (Asks-weaker (IsBadText bytes) IsBuilt words (λ c k. k.0.0.0) h)) h)
-
-  pub endos-ends : IfSome r.left (λ bytes. Asks (HasUnbuiltEndos bytes) words → IsDecided status.NotBuilt end)
-  endos-ends = told r.left (λ bytes. Asks (HasUnbuiltEndos bytes) words → IsDecided status.NotBuilt end)
-      (λ bytes is_left h. endos_end words bytes r w end is_left
-      (input_end words bytes r w end is_left ends (Asks-weaker (HasUnbuiltEndos bytes) IsBuilt words (λ c k. k.0.0.0) h)) h)
 
   pub too_large-ends : IfSome r.left (λ bytes. Asks (IsTooLarge bytes) words → IsDecided status.TooLarge end)
   too_large-ends = told r.left (λ bytes. Asks (IsTooLarge bytes) words → IsDecided status.TooLarge end)

@@ -3,6 +3,7 @@ pub mod Commands
 pub mod QuotientCommands
 pub mod Texts
 pub mod Outputs
+pub mod Headlines
 pub mod WordsEnds
 pub mod InputEnds
 pub mod TooLargeRanks

@@ -11,6 +11,7 @@ use Rattle.pc_presentation.specs.Pcp.{TailedPresentation, IsTailedPresentation}
 use Rattle.answer_text.specs.OneText.{AreNames, IsWritable}
 use Rattle.answer_text.proofs.OneText.{one_text_one_answer}
 use Rattle.tower.specs.Answers.{IsQuotient}
+use Rattle.tower.specs.TwoRuns.{HasSmallPart}
 use Rattle.pq_run.specs.Texts.{HasSmallRanks}
 use Rattle.pq_run.specs.Output.{WritesAnswer, OneOutputOneAnswer}
 
@@ -43,8 +44,9 @@ writes_answer p c form bytes written L A reads names quotient can told = record 
 }
 
 -- a presentation that has a quotient has no largest quotient of a rank above the limit
-pub small_ranks : (p c : ℕ) (bytes : List ℕ) (L : LPresentation) (A : Answer) → Reads bytes L → L.endos ≡ [] → IsQuotient L p c A → HasSmallRanks p c bytes
-small_ranks p c bytes L A reads none quotient = record { presentation = L; reads = reads; endos = none; small = quotient.small }
+pub small_ranks : (p c : ℕ) (bytes : List ℕ) (L : LPresentation) (A : Answer) → Reads bytes L → IsQuotient L p c A → HasSmallPart L p c
+    → HasSmallRanks p c bytes
+small_ranks p c bytes L A reads quotient part = record { presentation = L; reads = reads; small = quotient.small; small_part = part }
 
 pub one_output_one_answer : OneOutputOneAnswer
 one_output_one_answer p c bytes written x y = one_text_one_answer x.answer y.answer x.writable y.writable (sym x.text ∙ y.text)

@@ -6,7 +6,7 @@ use Rattle.pq_base.specs.declared.status.Status.{Status}
 use Rattle.pq_base.specs.declared.status.Status.TheVariants as status
 use Rattle.pq_run.specs.declared.input.Input.TheVariants.{Presentation}
 use Rattle.pq_run.specs.declared.refusal.Refusal.{Refusal}
-use Rattle.pq_run.specs.declared.refusal.Refusal.TheVariants.{Words, UnbuiltCommand, UnbuiltEndos, ReadFault, InputTooLong, Text, TooLarge, NoMemory}
+use Rattle.pq_run.specs.declared.refusal.Refusal.TheVariants.{Words, UnbuiltCommand, ReadFault, InputTooLong, Text, TooLarge, NoMemory}
 use Rattle.pq_run.specs.Refusals.{refusal_line, refusal_status}
 use Rattle.pq_run.specs.Streams.{Reading, Writing}
 use Rattle.pq_run.specs.Cause.{IsCause}
@@ -37,7 +37,6 @@ ends_in_memory r told (Err e) w end same needs is takes wanting = ends_by r told
 wanting_cause : (words : List (List ℕ)) (r : Reading) (refusal : Refusal) → NeedsMemory refusal → IsCause words r refusal → IsCause words r NoMemory
 wanting_cause words r Words needs cause = absurd needs
 wanting_cause words r UnbuiltCommand needs cause = absurd needs
-wanting_cause words r UnbuiltEndos needs cause = absurd needs
 wanting_cause words r ReadFault needs cause = absurd needs
 wanting_cause words r (InputTooLong input) needs cause = absurd needs
 wanting_cause words r (Text fault) needs cause = Asks-built Presentation words cause.0
@@ -53,7 +52,6 @@ refuses words r w end refusal cause (inr want) =
 not_done : (r : Refusal) → refusal_status r ≡ status.Done → ⊥
 not_done Words e = cc
 not_done UnbuiltCommand e = cc
-not_done UnbuiltEndos e = cc
 not_done ReadFault e = cc
 not_done (InputTooLong input) e = cc
 not_done (Text fault) e = cc
@@ -63,7 +61,6 @@ not_done NoMemory e = cc
 not_cut : (r : Refusal) → refusal_status r ≡ status.WriteFault → ⊥
 not_cut Words e = cc
 not_cut UnbuiltCommand e = cc
-not_cut UnbuiltEndos e = cc
 not_cut ReadFault e = cc
 not_cut (InputTooLong input) e = cc
 not_cut (Text fault) e = cc

@@ -4,7 +4,7 @@ use Rattle.pq_base.specs.declared.status.Status.{Status}
 use Rattle.pq_base.specs.declared.status.Status.TheVariants as status
 use Rattle.pq_run.specs.declared.input.Input.TheVariants.{Presentation}
 use Rattle.pq_run.specs.declared.refusal.Refusal.{Refusal}
-use Rattle.pq_run.specs.declared.refusal.Refusal.TheVariants.{Words, UnbuiltCommand, UnbuiltEndos, ReadFault, InputTooLong, Text, TooLarge, NoMemory}
+use Rattle.pq_run.specs.declared.refusal.Refusal.TheVariants.{Words, UnbuiltCommand, ReadFault, InputTooLong, Text, TooLarge, NoMemory}
 use Rattle.pq_run.specs.Command.{AreCommandWords, Asks}
 use Rattle.pq_run.specs.Refusals.{refusal_status}
 use Rattle.pq_run.specs.Built.{IsBuilt, IsUnbuilt}
@@ -23,7 +23,6 @@ data Kind (words : List (List ℕ)) (refusal : Refusal) : Type 0 where
 kind_of_cause : (words : List (List ℕ)) (r : Reading) (refusal : Refusal) → IsCause words r refusal → Kind words refusal
 kind_of_cause words r Words cause = no_command refl cause
 kind_of_cause words r UnbuiltCommand cause = unbuilt refl (cause.0, cause.1)
-kind_of_cause words r UnbuiltEndos cause = built (λ e. cc) (Asks-built Presentation words cause.0)
 kind_of_cause words r ReadFault cause = built (λ e. cc) (cause.0.0, cause.0.1, cause.0.2.1.0)
 kind_of_cause words r (InputTooLong input) cause = built (λ e. cc) (Asks-built input words cause.0)
 kind_of_cause words r (Text fault) cause = built (λ e. cc) (Asks-built Presentation words cause.0)

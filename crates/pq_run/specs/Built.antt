@@ -1,15 +1,14 @@
--- Which commands are built, and which inputs of them.
+-- Which commands are built, and what becomes of their inputs.
 -- From: this project's own commands.
 use Rattle.std.specs.Prelude.{◌≡◌, ℕ, List, Some}
 use Rattle.derivation_log.specs.declared.source.Run.{Run}
-use Rattle.derivation_log.specs.declared.source.Run.TheVariants.{Whole}
 use Rattle.pq_run.specs.declared.command.Command.{Command}
 use Rattle.pq_run.specs.declared.command.Command.TheVariants.{Quotient, Json, Certify, Check, Sample}
 use Rattle.pq_run.specs.declared.input.Input.{Input}
 use Rattle.pq_run.specs.declared.input.Input.TheVariants.{Presentation}
 use Rattle.pq_run.specs.Command.{Asks, AtPrimeAndClass}
 use Rattle.pq_run.specs.Input.{input_of, IsAbove, IsWithin}
-use Rattle.pq_run.specs.Texts.{IsReadable, HasEndos, HasLargeRank, HasSmallRanks}
+use Rattle.pq_run.specs.Texts.{IsReadable, HasLargeRank, HasSmallRanks}
 
 abbrev pub IsBuilt : Command → Type 0
 IsBuilt (Quotient p c) = Unit {0}
@@ -46,24 +45,21 @@ IsGiven bytes command = ReadsInput Presentation command × IsWithin Presentation
 abbrev pub IsBadText : List ℕ → Command → Type 0
 IsBadText bytes command = IsGiven bytes command × ¬ IsReadable bytes
 
--- so, and the bytes are a presentation with endomorphisms, which aren't built
-abbrev pub HasUnbuiltEndos : List ℕ → Command → Type 0
-HasUnbuiltEndos bytes command = IsGiven bytes command × HasEndos bytes
-
--- so, and in this part of the presentation, which is the whole, class k is the first whose largest quotient has a rank above the
--- limit: the rank is r
+-- so, and the bytes are a presentation in this part of which class k is the first whose largest quotient has a rank above the limit:
+-- the rank is r
 abbrev pub IsTooLargeFor : Run → ℕ → ℕ → List ℕ → Command → Type 0
-IsTooLargeFor part k r bytes command = IsGiven bytes command × (part ≡ Whole) × AtPrimeAndClass (λ p c. HasLargeRank p c k r bytes) command
+IsTooLargeFor part k r bytes command = IsGiven bytes command × AtPrimeAndClass (λ p c. HasLargeRank p c part k r bytes) command
 
 -- so, in some part and at some class
 abbrev pub IsTooLarge : List ℕ → Command → Type 0
 IsTooLarge bytes command = (part : Run) × (k : ℕ) × (r : ℕ) × IsTooLargeFor part k r bytes command
 
--- so, but no largest quotient up to the class asked for has a rank above the limit: the bytes are a presentation that is answered
+-- the bytes are a presentation none of whose largest quotients up to the class asked for has a rank above the limit, nor of its
+-- iterated part, where that is computed first: it is answered
 abbrev pub IsAnswered : List ℕ → Command → Type 0
 IsAnswered bytes command = IsGiven bytes command × AtPrimeAndClass (λ p c. HasSmallRanks p c bytes) command
 
--- the words and the bytes determine the first class whose rank is above the limit, and this rank
+-- the words and the bytes determine the part, the first class whose rank is above the limit, and this rank
 abbrev pub OneTooLarge : Type 0
 OneTooLarge = (words : List (List ℕ)) (bytes : List ℕ) (part other : Run) (j k r s : ℕ) → Asks (IsTooLargeFor part j r bytes) words
     → Asks (IsTooLargeFor other k s bytes) words → (part ≡ other) × (j ≡ k) × (r ≡ s)

@@ -1,15 +1,14 @@
 -- What it takes for a command to be refused. Want of memory needs no cause but that the command is built.
 -- From: this project's own commands.
 use Rattle.std.specs.Prelude.{◌≡◌, ℕ, List, IfSome}
-use Rattle.derivation_log.specs.declared.source.Run.TheVariants.{Whole}
 use Rattle.pq_io.specs.Faults.{Rose}
 use Rattle.pq_run.specs.declared.input.Input.{Input}
 use Rattle.pq_run.specs.declared.input.Input.TheVariants.{Presentation}
 use Rattle.pq_run.specs.declared.refusal.Refusal.{Refusal}
-use Rattle.pq_run.specs.declared.refusal.Refusal.TheVariants.{Words, UnbuiltCommand, UnbuiltEndos, ReadFault, InputTooLong, Text, TooLarge, NoMemory}
+use Rattle.pq_run.specs.declared.refusal.Refusal.TheVariants.{Words, UnbuiltCommand, ReadFault, InputTooLong, Text, TooLarge, NoMemory}
 use Rattle.pq_run.specs.Command.{AreCommandWords, Asks}
 use Rattle.pq_run.specs.Input.{IsAbove, IsWithin}
-use Rattle.pq_run.specs.Texts.{HasEndos, HasFault, HasLargeRank}
+use Rattle.pq_run.specs.Texts.{HasFault, HasLargeRank}
 use Rattle.pq_run.specs.Built.{IsBuilt, IsUnbuilt, ReadsInput, IsReading, IsTooLargeFor}
 use Rattle.pq_run.specs.Streams.{Reading}
 
@@ -22,9 +21,8 @@ IsReadCause input r _ = ⊥
 
 -- what it takes for the bytes of a presentation to be refused so, at this prime and class
 abbrev pub IsTextCause : ℕ → ℕ → List ℕ → Refusal → Type 0
-IsTextCause p c bytes UnbuiltEndos = HasEndos bytes
 IsTextCause p c bytes (Text fault) = HasFault fault bytes
-IsTextCause p c bytes (TooLarge part k rank) = (part ≡ Whole) × HasLargeRank p c k rank bytes
+IsTextCause p c bytes (TooLarge part k rank) = HasLargeRank p c part k rank bytes
 IsTextCause p c bytes NoMemory = Unit {0}
 IsTextCause p c bytes _ = ⊥
 
@@ -36,7 +34,6 @@ HasTextCause p c r refusal = IfSome r.left (λ bytes. IsWithin Presentation byte
 abbrev pub IsInputCause : ℕ → ℕ → Reading → Refusal → Type 0
 IsInputCause p c r Words = ⊥
 IsInputCause p c r UnbuiltCommand = ⊥
-IsInputCause p c r UnbuiltEndos = HasTextCause p c r UnbuiltEndos
 IsInputCause p c r ReadFault = IsReadCause Presentation r ReadFault
 IsInputCause p c r (InputTooLong input) = IsReadCause Presentation r (InputTooLong input)
 IsInputCause p c r (Text fault) = HasTextCause p c r (Text fault)
@@ -47,8 +44,6 @@ IsInputCause p c r NoMemory = Unit {0}
 abbrev pub IsCause : List (List ℕ) → Reading → Refusal → Type 0
 IsCause words r Words = ¬ AreCommandWords words
 IsCause words r UnbuiltCommand = Asks IsUnbuilt words
-IsCause words r UnbuiltEndos =
-    Asks (ReadsInput Presentation) words × IfSome r.left (λ bytes. IsWithin Presentation bytes × HasEndos bytes)
 IsCause words r ReadFault = Asks IsReading words × Rose r.before r.after
 IsCause words r (InputTooLong input) = Asks (ReadsInput input) words × IfSome r.left (IsAbove input)
 IsCause words r (Text fault) =

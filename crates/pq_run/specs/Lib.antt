@@ -9,3 +9,4 @@ pub mod Refusals
 pub mod Streams
 pub mod Cause
 pub mod Ends
+pub mod Headline

@@ -17,7 +17,7 @@ use Rattle.tower.specs.declared.refusal.TowerRefusal.{TowerRefusal}
 use Rattle.tower.specs.declared.refusal.TowerRefusal.TheVariants as tower
 use Rattle.pq_run.specs.declared.input.Input.{Input}
 use Rattle.pq_run.specs.declared.refusal.Refusal.{Refusal}
-use Rattle.pq_run.specs.declared.refusal.Refusal.TheVariants.{Words, UnbuiltCommand, UnbuiltEndos, ReadFault, InputTooLong, Text, TooLarge, NoMemory}
+use Rattle.pq_run.specs.declared.refusal.Refusal.TheVariants.{Words, UnbuiltCommand, ReadFault, InputTooLong, Text, TooLarge, NoMemory}
 use Rattle.pq_run.specs.Input.{byte_limit}
 
 -- what is limited
@@ -61,7 +61,6 @@ too_large_line part k rank =
 abbrev pub refusal_line : Refusal → List ℕ
 refusal_line Words = codes "refused: words" ++ 10 ∷ []
 refusal_line UnbuiltCommand = codes "refused: not built: command" ++ 10 ∷ []
-refusal_line UnbuiltEndos = codes "refused: not built: endos" ++ 10 ∷ []
 refusal_line ReadFault = codes "refused: read fault" ++ 10 ∷ []
 refusal_line (InputTooLong input) = too_long_line input
 refusal_line (Text fault) = fault_line fault
@@ -71,7 +70,6 @@ refusal_line NoMemory = codes "refused: no memory" ++ 10 ∷ []
 abbrev pub refusal_status : Refusal → Status
 refusal_status Words = status.BadWords
 refusal_status UnbuiltCommand = status.NotBuilt
-refusal_status UnbuiltEndos = status.NotBuilt
 refusal_status ReadFault = status.ReadFault
 refusal_status (InputTooLong input) = status.InputTooLong
 refusal_status (Text fault) = status.BadText

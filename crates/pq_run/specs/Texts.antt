@@ -1,6 +1,6 @@
--- What the bytes of a presentation's input may be: no presentation, or one with endomorphisms, or one without, some of whose
--- largest quotients up to a class have a rank above the limit, or none.
-use Rattle.std.specs.Prelude.{◌≡◌, ◌≢◌, ◌<◌, ◌≤◌, ℕ, List, []}
+-- What the bytes of a presentation's input may be: no presentation, or one some of whose largest quotients up to a class have a rank
+-- above the limit, or one with none such. The largest quotients of the iterated part count where it is computed first.
+use Rattle.std.specs.Prelude.{◌<◌, ◌≤◌, ℕ, List}
 use Rattle.pq_base.specs.Limits.{max_rank}
 use Rattle.pq_base.specs.LPresentation.{LPresentation}
 use Rattle.pq_base.specs.Largest.{HasOrder}
@@ -8,31 +8,27 @@ use Rattle.lpres_reader.specs.declared.fault.TextFault.{TextFault}
 use Rattle.lpres_reader.specs.Reads.{Reads}
 use Rattle.lpres_reader.specs.Faults.{FirstFault}
 use Rattle.lpres_reader.specs.Stops.{kind_of}
-use Rattle.tower.specs.Answers.{IsTooLarge}
+use Rattle.derivation_log.specs.declared.source.Run.{Run}
+use Rattle.tower.specs.TwoRuns.{HasSmallPart, IsTooLargeIn}
 
 -- the bytes read as a presentation
 abbrev pub IsReadable : List ℕ → Type 0
 IsReadable bytes = (L : LPresentation) × Reads bytes L
 
--- the bytes read as a presentation that has an endomorphism
-abbrev pub HasEndos : List ℕ → Type 0
-HasEndos bytes = (L : LPresentation) × Reads bytes L × (L.endos ≢ [])
-
--- the bytes read as a presentation without endomorphisms, and the first of its largest quotients up to p-class c to have a rank
--- above the limit is that of class k: its rank is r
-pub record HasLargeRank (p c k r : ℕ) (bytes : List ℕ) : Type 0 where
+-- the bytes read as a presentation, and the first largest quotient up to p-class c that has a rank above the limit is that of class
+-- k: its rank is r. It is one of the iterated part, where a run computes that first, else one of the whole
+pub record HasLargeRank (p c : ℕ) (part : Run) (k r : ℕ) (bytes : List ℕ) : Type 0 where
   pub presentation : LPresentation
   pub reads : Reads bytes presentation
-  pub endos : presentation.endos ≡ []
-  pub large : IsTooLarge presentation p c k r
+  pub large : IsTooLargeIn presentation p c part k r
 
--- the bytes read as a presentation without endomorphisms, and each of its largest quotients up to p-class c has a rank within the
--- limit
+-- the bytes read as a presentation, and each of its largest quotients up to p-class c has a rank within the limit, as has each of its
+-- iterated part, where that is computed first
 pub record HasSmallRanks (p c : ℕ) (bytes : List ℕ) : Type 0 where
   pub presentation : LPresentation
   pub reads : Reads bytes presentation
-  pub endos : presentation.endos ≡ []
   pub small : (k r : ℕ) → k ≤ c → max_rank < r → ¬ HasOrder presentation p k r
+  pub small_part : HasSmallPart presentation p c
 
 -- the bytes have this first fault
 abbrev pub HasFault : TextFault → List ℕ → Type 0

@@ -8,7 +8,8 @@ pub fn one_output_one_answer()
     ensures { OneOutputOneAnswer }
 {}
 
-/// The words and the bytes determine the first class whose rank is above the limit, and this rank: so they determine the line.
+/// The words and the bytes determine the part, the first class whose rank is above the limit, and this rank: so they determine
+/// the line.
 pub fn one_too_large()
     ensures { OneTooLarge }
 {}

@@ -1,5 +1,5 @@
 // The output of `quotient P C`: from the bytes of a source to the bytes of the answer that is asked for.
-ghost use Rattle.std.specs.Prelude.{◌≡◌, ◌≤◌, ◌+◌, ◌↔◌, [], Some, IfOk, IfErr, IfSome, IsTrue};
+ghost use Rattle.std.specs.Prelude.{◌≡◌, ◌≤◌, ◌+◌, [], Some, IfOk, IfErr, IfSome};
 ghost use Rattle.pq_base.specs.Prime.{prime_value};
 ghost use Rattle.pq_run.specs.declared.input.Input.TheVariants.{Presentation};
 ghost use Rattle.pq_run.specs.Input.{byte_limit, IsTaken, IsWithin};
@@ -14,7 +14,7 @@ use crate::form::{Form, write_answer};
 use crate::input::{Input, read_input};
 use crate::refusal::Refusal;
 use derivation_log::NoLog;
-use lpres_reader::{LPres, read};
+use lpres_reader::read;
 use plain_collector::Plain;
 use pq_base::Prime;
 use pq_io::Source;
@@ -59,16 +59,6 @@ fn output_of_text(
 {
     let pres = read(alloc, text)?;
     let _names = pres.names();
-    if !has_no_endos(&pres) {
-        return Err(Refusal::UnbuiltEndos);
-    }
     let answer = largest::<Plain, NoLog>(alloc, &pres, prime, class, &mut NoLog)?;
     Ok(write_answer(alloc, form, &answer)?)
-}
-
-/// Whether a presentation has no endomorphism.
-fn has_no_endos(pres: &LPres) -> bool
-    ensures { IsTrue result ↔ (pres.now.endos ≡ []) }
-{
-    pres.endos().is_empty()
 }

@@ -23,8 +23,6 @@ pub enum Refusal {
     Words,
     /// The command isn't built.
     UnbuiltCommand,
-    /// Presentations with endomorphisms aren't built.
-    UnbuiltEndos,
     /// A read failed.
     ReadFault,
     /// The input has more bytes than it may have.
@@ -86,7 +84,6 @@ pub fn refuse<K: Sink>(alloc: Global, sink: &mut K, refusal: Refusal) -> Status
         Refusal::UnbuiltCommand => {
             refuse_by(sink, b"refused: not built: command\n", Status::NotBuilt)
         }
-        Refusal::UnbuiltEndos => refuse_by(sink, b"refused: not built: endos\n", Status::NotBuilt),
         Refusal::ReadFault => refuse_by(sink, b"refused: read fault\n", Status::ReadFault),
         Refusal::InputTooLong(input) => {
             refuse_by(sink, too_long_line(input), Status::InputTooLong)

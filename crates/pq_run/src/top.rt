@@ -6,9 +6,10 @@ ghost use Rattle.pq_run.specs.declared.input.Input.TheVariants.{Presentation};
 ghost use Rattle.pq_run.specs.Command.{IsClass, AreCommandWords, CommandWords, Asks};
 ghost use Rattle.pq_run.specs.Input.{byte_limit, IsTaken, IsTakenBy};
 ghost use Rattle.pq_run.specs.Form.{quotient_command};
-ghost use Rattle.pq_run.specs.Built.{IsUnbuilt, IsReading, IsTooLong, IsBadText, HasUnbuiltEndos, IsTooLarge, IsAnswered};
+ghost use Rattle.pq_run.specs.Built.{IsUnbuilt, IsReading, IsTooLong, IsBadText, IsTooLarge, IsAnswered};
 ghost use Rattle.pq_run.specs.Streams.{reading_of, writing_of};
 ghost use Rattle.pq_run.specs.Ends.{IsDone, IsCut, IsRefused, IsDecided, Ends};
+ghost use Rattle.pq_run.specs.Headline.{Headline};
 
 use crate::command::{Command, parse_words};
 use crate::form::Form;
@@ -21,9 +22,13 @@ use std::alloc::Global;
 
 /// Carries out the command that the words spell: reads its input to the end and writes its output, or a line that says why
 /// the command is refused. The line is written as far as the sink takes it.
-/// Built so far: `quotient P C` and `quotient P C json`, for presentations without endomorphisms.
+/// Built so far: `quotient P C` and `quotient P C json`.
 pub fn run<S: Source, K: Sink>(alloc: Global, words: &Words, source: &mut S, sink: &mut K) -> Status
-    // With status 0 the command has read its input to its end, and has written one output, and nothing else.
+    // With status 0, `quotient P C` has read one presentation to its end, and has written its largest quotient: line by line.
+    ensures headline { result ≡ Status.Done
+        → Headline words.now (reading_of S.left S.faults source.old source.new) (writing_of K.taken K.faults sink.old sink.new) }
+
+    // With status 0 each command has read its input to its end, and has written one output, and nothing else.
     ensures done { result ≡ Status.Done
         → IsDone words.now (reading_of S.left S.faults source.old source.new) (writing_of K.taken K.faults sink.old sink.new) }
 
@@ -44,11 +49,10 @@ pub fn run<S: Source, K: Sink>(alloc: Global, words: &Words, source: &mut S, sin
     // What the input decides comes, unless a read fails or memory is wanting before.
     ensures too_long { IfSome (S.left source.old) (λ bytes. Asks (IsTooLong bytes) words.now → IsDecided Status.InputTooLong result) }
     ensures bad_text { IfSome (S.left source.old) (λ bytes. Asks (IsBadText bytes) words.now → IsDecided Status.BadText result) }
-    ensures endos { IfSome (S.left source.old) (λ bytes. Asks (HasUnbuiltEndos bytes) words.now → IsDecided Status.NotBuilt result) }
     ensures too_large { IfSome (S.left source.old) (λ bytes. Asks (IsTooLarge bytes) words.now → IsDecided Status.TooLarge result) }
 
     // Where nothing fails and the input is one that is answered, as each is whose largest quotients have ranks within the limit,
-    // the command is done, unless memory is wanting.
+    // those of its iterated part too where that is computed first, the command is done, unless memory is wanting.
     ensures complete { IfSome (S.left source.old) (λ bytes. Asks (IsAnswered bytes) words.now
         → ¬ Rose (S.faults source.old) (S.faults source.new) → ¬ Rose (K.faults sink.old) (K.faults sink.new)
         → (result ≡ Status.Done) ⊎ (result ≡ Status.NoMemory)) }

@@ -10,9 +10,6 @@ returns-in-Words-clause-ends g c = ends_as _ _ _ _ c.in-Words.is c.refuse_by.ens
 pub returns-in-UnbuiltCommand-clause-ends : goal.returns-in-UnbuiltCommand-clause-ends
 returns-in-UnbuiltCommand-clause-ends g c = ends_as _ _ _ _ c.in-UnbuiltCommand.is c.refuse_by-in-UnbuiltCommand.ensures.status c.refuse_by-in-UnbuiltCommand.ensures.line
 
-pub returns-in-UnbuiltEndos-clause-ends : goal.returns-in-UnbuiltEndos-clause-ends
-returns-in-UnbuiltEndos-clause-ends g c = ends_as _ _ _ _ c.in-UnbuiltEndos.is c.refuse_by-in-UnbuiltEndos.ensures.status c.refuse_by-in-UnbuiltEndos.ensures.line
-
 pub returns-in-ReadFault-clause-ends : goal.returns-in-ReadFault-clause-ends
 returns-in-ReadFault-clause-ends g c = ends_as _ _ _ _ c.in-ReadFault.is c.refuse_by-in-ReadFault.ensures.status c.refuse_by-in-ReadFault.ensures.line
 

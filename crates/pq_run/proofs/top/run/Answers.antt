@@ -1,8 +1,12 @@
 -- Each clause follows from how the command ends.
 use Rattle.pq_run.proofs.WordsEnds.{bad_words-ends, command-ends}
-use Rattle.pq_run.proofs.InputEnds.{too_long-ends, bad_text-ends, endos-ends, too_large-ends, complete-ends}
+use Rattle.pq_run.proofs.InputEnds.{too_long-ends, bad_text-ends, too_large-ends, complete-ends}
 use Rattle.pq_run.proofs.RefusalEnds.{done-ends, write_fault-ends, refused-ends}
+use Rattle.pq_run.proofs.Headlines.{headline}
 use Rattle.pq_run.proofs.top.run.Goals as goal
+
+pub returns-clause-headline : goal.returns-clause-headline
+returns-clause-headline g c is = headline _ _ _ (done-ends _ _ _ _ c.carry_out.ensures.ends is)
 
 pub returns-clause-done : goal.returns-clause-done
 returns-clause-done g c = done-ends _ _ _ _ c.carry_out.ensures.ends
@@ -24,9 +28,6 @@ returns-clause-too_long g c = too_long-ends _ _ _ _ c.carry_out.ensures.ends
 
 pub returns-clause-bad_text : goal.returns-clause-bad_text
 returns-clause-bad_text g c = bad_text-ends _ _ _ _ c.carry_out.ensures.ends
-
-pub returns-clause-endos : goal.returns-clause-endos
-returns-clause-endos g c = endos-ends _ _ _ _ c.carry_out.ensures.ends
 
 pub returns-clause-too_large : goal.returns-clause-too_large
 returns-clause-too_large g c = too_large-ends _ _ _ _ c.carry_out.ensures.ends

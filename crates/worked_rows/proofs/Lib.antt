@@ -1,3 +1,4 @@
 mod EmptyCounts
+mod EmptySpans
 mod ImageLists
 mod KeptTails

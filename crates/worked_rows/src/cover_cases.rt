@@ -131,7 +131,7 @@ fn show_cover(alloc: Global, cover: &Cover, out: &mut String) -> Result<()> {
     show_images(alloc, cover, out)
 }
 
-fn scratch_of(alloc: Global, cover: &Cover) -> Result<Scratch<Plain>>
+pub(crate) fn scratch_of(alloc: Global, cover: &Cover) -> Result<Scratch<Plain>>
     ensures { IfOk result (λ s. IsScratch (cover_presentation cover.now) s) }
 {
     let s = Scratch::<Plain>::new(alloc, cover.pcp())?;
@@ -160,7 +160,7 @@ fn show_tail(cover: &Cover, source: TailSource, out: &mut String) -> Result<()> 
 }
 
 /// A row over the tails of a cover.
-fn empty_row(alloc: Global, cover: &Cover) -> Result<Row>
+pub(crate) fn empty_row(alloc: Global, cover: &Cover) -> Result<Row>
     ensures prime { IfOk result (λ row. row.prime ≡ cover.now.answer.presentation.prime) }
     ensures width { IfOk result (λ row. length row.entries ≡ length cover.now.sources) }
 {

@@ -19,6 +19,7 @@ mod devices;
 mod draws;
 mod element_calls;
 mod element_cases;
+mod endo_cases;
 mod log_cases;
 mod parts_cases;
 mod presentation_cases;
@@ -37,6 +38,7 @@ use crate::base_cases::BaseCases;
 use crate::cases::{Cases, transcript};
 use crate::cover_cases::CoverCases;
 use crate::element_cases::ElementCases;
+use crate::endo_cases::EndoCases;
 use crate::log_cases::LogCases;
 use crate::parts_cases::PartsCases;
 use crate::presentation_cases::PresentationCases;
@@ -63,6 +65,7 @@ fn main(rt: HostRuntime) -> Result<()> {
     show::<PushCases>(&rt, &folder, "pushes")?;
     show::<CoverCases>(&rt, &folder, "covers")?;
     show::<StepCases>(&rt, &folder, "steps")?;
+    show::<EndoCases>(&rt, &folder, "endos")?;
     show::<LogCases>(&rt, &folder, "logs")?;
     show::<TowerCases>(&rt, &folder, "towers")?;
     show::<RunCases>(&rt, &folder, "commands")

@@ -1,6 +1,8 @@
 //! Towers over the plain collector. Of the presentation that the text of the case is, `largest P C` is the largest quotient
-//! of p-class at most C, where it has no endomorphism, and `finite P C / RELATORS` that of the relators named, as `fixed 2,
-//! iterated 1`: the answer is how many rows each class added, and the quotient or the rank that is too large.
+//! of p-class at most C, `finite P C / RELATORS` that of the relators named, as `fixed 2, iterated 1, iterated 1 along 2 1`,
+//! `with_fixed P C / RELATORS` that of these and all fixed ones, and `ascending P C` that of the iterated part: the answer is
+//! how many rows each class added, in the run over the iterated part too where there is one, and the quotient or the rank
+//! that is too large; of `ascending` also the relators that were recorded.
 
 ghost use Rattle.std.specs.Prelude.{◌≡◌, ◌≤◌, List, [], IfOk, IsTrue};
 ghost use Rattle.std.specs.List.{All};
@@ -12,8 +14,9 @@ ghost use Rattle.tower.specs.NamedParts.{IsNamed};
 
 use crate::answer_cases::show_answer;
 use crate::cases::Cases;
+use crate::checks::are_endo_numbers;
 use crate::presentation_cases::{prime_of, read_short};
-use crate::text::{Text, halves, show_numbers};
+use crate::text::{Text, halves, numbers, show_numbers};
 use anyhow::{Result, bail};
 use derivation_log::{RowCounts, Run};
 use lpres_reader::LPres;
@@ -22,7 +25,7 @@ use plain_collector::Plain;
 use pq_base::limits::CLASS;
 use pq_base::{Path, Prime};
 use std::alloc::Global;
-use tower::{Relator, TowerRefusal, finite, largest};
+use tower::{Relator, TowerRefusal, ascending, finite, largest, with_fixed};
 
 #[derive(Drop)]
 pub(crate) struct TowerCases {
@@ -48,13 +51,15 @@ impl Cases for TowerCases {
         match verb {
             "largest" => show_largest(self.alloc, &pres, rest, out),
             "finite" => show_finite(self.alloc, &pres, rest, out),
+            "with_fixed" => show_with_fixed(self.alloc, &pres, rest, out),
+            "ascending" => show_ascending(self.alloc, &pres, rest, out),
             _ => bail!("no such verb"),
         }
     }
 }
 
 /// The class that a text is.
-fn class_of(text: &str) -> Result<u8>
+pub(crate) fn class_of(text: &str) -> Result<u8>
     ensures from_one { IfOk result (λ class. 1 ≤ class) }
     ensures most { IfOk result (λ class. class ≤ max_class) }
 {
@@ -69,26 +74,23 @@ fn show_largest(alloc: Global, pres: &LPres, rest: &str, out: &mut String) -> Re
     let (prime, class) = halves(rest, " ")?;
     let prime = prime_of(prime)?;
     let class = class_of(class)?;
-    if !pres.endos().is_empty() {
-        bail!("with endomorphisms");
-    }
     let mut log = RowCounts::new(alloc);
     let answer = largest_of(alloc, pres, prime, class, &mut log);
     show_tower(alloc, &log, answer, out)
 }
 
-/// The largest quotient of a presentation without endomorphisms. The log is told of each class.
-fn largest_of(
+/// The largest quotient of a presentation. The log is told of each class.
+pub(crate) fn largest_of(
     alloc: Global,
     pres: &LPres,
     prime: Prime,
     class: u8,
     log: &mut RowCounts,
 ) -> Result<Answer, TowerRefusal>
-    requires endos { pres.now.endos ≡ [] }
     requires from_one { 1 ≤ class }
     requires most { class ≤ max_class }
     requires empty { log.old.whole ≡ [] }
+    requires empty_part { log.old.iterated ≡ [] }
 {
     largest::<Plain, RowCounts>(alloc, pres, prime, class, log)
 }
@@ -124,6 +126,80 @@ fn finite_of(
     finite::<Plain, RowCounts>(alloc, pres, relators, prime, class, log)
 }
 
+fn show_with_fixed(alloc: Global, pres: &LPres, rest: &str, out: &mut String) -> Result<()> {
+    let (head, names) = halves(rest, "/")?;
+    let (prime, class) = halves(head, " ")?;
+    let prime = prime_of(prime)?;
+    let class = class_of(class)?;
+    let relators = relators_of(alloc, names)?;
+    if !are_named(pres, &relators) {
+        bail!("no such relator");
+    }
+    let mut log = RowCounts::new(alloc);
+    let answer = with_fixed_of(alloc, pres, &relators, prime, class, &mut log);
+    show_tower(alloc, &log, answer, out)
+}
+
+/// The largest quotient of the relators named and all fixed ones. The log is told of each class.
+fn with_fixed_of(
+    alloc: Global,
+    pres: &LPres,
+    relators: &[Relator],
+    prime: Prime,
+    class: u8,
+    log: &mut RowCounts,
+) -> Result<Answer, TowerRefusal>
+    requires named { All (IsNamed pres.now) relators.now }
+    requires from_one { 1 ≤ class }
+    requires most { class ≤ max_class }
+    requires empty { log.old.whole ≡ [] }
+{
+    with_fixed::<Plain, RowCounts>(alloc, pres, relators, prime, class, log)
+}
+
+fn show_ascending(alloc: Global, pres: &LPres, rest: &str, out: &mut String) -> Result<()> {
+    let (prime, class) = halves(rest, " ")?;
+    let prime = prime_of(prime)?;
+    let class = class_of(class)?;
+    let mut log = RowCounts::new(alloc);
+    match ascending_of(alloc, pres, prime, class, &mut log) {
+        Ok((answer, recorded)) => {
+            show_tower(alloc, &log, Ok(answer), out)?;
+            show_recorded(&recorded, out)
+        }
+        Err(refusal) => show_tower(alloc, &log, Err(refusal), out),
+    }
+}
+
+/// The largest quotient of the iterated part, and the relators that were recorded. The log is told of each class.
+fn ascending_of(
+    alloc: Global,
+    pres: &LPres,
+    prime: Prime,
+    class: u8,
+    log: &mut RowCounts,
+) -> Result<(Answer, Vec<Relator>), TowerRefusal>
+    requires from_one { 1 ≤ class }
+    requires most { class ≤ max_class }
+    requires empty { log.old.iterated ≡ [] }
+{
+    ascending::<Plain, RowCounts>(alloc, pres, Run::Iterated, prime, class, log)
+}
+
+fn show_recorded(recorded: &[Relator], out: &mut String) -> Result<()> {
+    for relator in recorded {
+        match relator {
+            Relator::Fixed(number) => writeln!(out, "    recorded fixed {number}")?,
+            Relator::Iterated(number, path) => {
+                write!(out, "    recorded iterated {number} along")?;
+                show_numbers(out, path.numbers())?;
+                out.push('\n')?;
+            }
+        }
+    }
+    Ok(())
+}
+
 /// The relators that a text names.
 fn relators_of(alloc: Global, text: &str) -> Result<Vec<Relator>> {
     let mut relators = Vec::new(alloc);
@@ -137,16 +213,21 @@ fn relators_of(alloc: Global, text: &str) -> Result<Vec<Relator>> {
 }
 
 fn relator_of(alloc: Global, name: &str) -> Result<Relator> {
-    let (kind, number) = halves(name.trim(), " ")?;
+    let (kind, rest) = halves(name.trim(), " ")?;
+    let (number, path) = match rest.split_once(" along ") {
+        Some((number, path)) => (number, path),
+        None => (rest, ""),
+    };
     let number = number.parse::<u32>()?;
+    let path = Path::of(alloc, &numbers::<u8>(alloc, path)?)?;
     match kind {
         "fixed" => Ok(Relator::Fixed(number)),
-        "iterated" => Ok(Relator::Iterated(number, Path::of(alloc, &[])?)),
+        "iterated" => Ok(Relator::Iterated(number, path)),
         _ => bail!("no relator"),
     }
 }
 
-/// Whether these are relators of a presentation, along no endomorphism.
+/// Whether these are relators of a presentation, fixed ones or iterated ones along its endomorphisms.
 fn are_named(pres: &LPres, relators: &[Relator]) -> bool
     ensures { IsTrue result → All (IsNamed pres.now) relators.now }
 {
@@ -164,21 +245,26 @@ fn is_named(pres: &LPres, relator: &Relator) -> bool
     match relator {
         Relator::Fixed(number) => 1 <= *number && *number as usize <= pres.fixed().len(),
         Relator::Iterated(number, path) => {
-            1 <= *number && *number as usize <= pres.iterated().len() && path.numbers().is_empty()
+            1 <= *number
+                && *number as usize <= pres.iterated().len()
+                && are_endo_numbers(pres.endos().len(), path.numbers())
         }
     }
 }
 
-/// Writes how many rows each class added, and the answer or the rank that is too large.
+/// Writes how many rows each class added, those of a run over the iterated part first, and the answer or the rank that is
+/// too large.
 fn show_tower(
     alloc: Global,
     log: &RowCounts,
     answer: Result<Answer, TowerRefusal>,
     out: &mut String,
 ) -> Result<()> {
-    out.push_str("    rows")?;
-    show_numbers(out, log.of(Run::Whole))?;
-    out.push('\n')?;
+    let part = log.of(Run::Iterated);
+    if !part.is_empty() {
+        show_rows(out, "    rows of the iterated part", part)?;
+    }
+    show_rows(out, "    rows", log.of(Run::Whole))?;
     match answer {
         Ok(answer) => show_answer(alloc, &answer, out),
         Err(TowerRefusal::TooLarge { part, class, rank }) => {
@@ -186,6 +272,13 @@ fn show_tower(
         }
         Err(TowerRefusal::NoMemory) => bail!("no memory"),
     }
+}
+
+fn show_rows(out: &mut String, head: &str, rows: &[usize]) -> Result<()> {
+    out.push_str(head)?;
+    show_numbers(out, rows)?;
+    out.push('\n')?;
+    Ok(())
 }
 
 fn show_too_large(part: Run, class: u8, rank: u32, out: &mut String) -> Result<()> {

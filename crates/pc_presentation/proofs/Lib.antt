@@ -5,3 +5,4 @@ pub mod normal_tables
 pub mod quotients
 pub mod rows
 pub mod cuts
+pub mod commuting

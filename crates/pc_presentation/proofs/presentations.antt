@@ -14,3 +14,7 @@ pub mod TrivialLaws
 pub mod RelationSides
 pub mod WrittenWords
 pub mod SyllableParts
+pub mod RaisedNumbers
+pub mod BareRelations
+pub mod FirstCommuting
+pub mod CommutingNumberLaws

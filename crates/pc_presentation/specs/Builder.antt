@@ -6,7 +6,7 @@ use Rattle.pc_presentation.specs.declared.builder.PcpRefusal.{PcpRefusal}
 use Rattle.pc_presentation.specs.declared.builder.PcpRefusal.TheVariants.{OutOfRange, Repeated, NotNormal, NotLater, NoMemory}
 use Rattle.pc_presentation.specs.Syllable.{AreGenerators, IsNormalWord, AreLater}
 use Rattle.pc_presentation.specs.Relation.{IsRelation, IsTail, side_start, PerRelation, entry_at, with_entry, per_relation, relation_number}
-use Rattle.pc_presentation.specs.Pcp.{TailedPresentation, with_relation, plain_presentation}
+use Rattle.pc_presentation.specs.Pcp.{TailedPresentation, IsBareRelation, with_relation, plain_presentation}
 
 pub record Draft : Type 0 where
   -- relations that weren't given have the empty word and no tail
@@ -25,6 +25,10 @@ extended D r word tail = record { built = with_relation D.built r word tail; giv
 
 abbrev pub WasGiven : Draft → Relation → Type 0
 WasGiven D r = entry_at false D.given r ≡ true
+
+-- relations that weren't given are bare
+abbrev pub OthersAreBare : Draft → Type 0
+OthersAreBare D = (r : Relation) → IsRelation D.built.presentation.rank r → ¬ WasGiven D r → IsBareRelation D.built r
 
 -- the numbers of the relation, of its word and of its tail are in range
 pub record AreInRange (D : Draft) (r : Relation) (word : List Syllable) (tail : Option ℕ) : Type 0 where

@@ -7,13 +7,17 @@ pub mod Definition
 pub mod Parts
 pub mod Rowed
 pub mod Collection
+pub mod Commuting
+pub mod PushSteps
 pub mod Overlaps
 pub mod OverlapNumbers
 pub mod OverlapRows
 pub mod Arithmetic
 pub mod NormalTable
 pub mod CollectionLaws
+pub mod CommutingLaws
 pub mod Tailed
+pub mod CommutingNumbers
 pub mod Scratch
 pub mod ImageElements
 pub mod RowedLaws

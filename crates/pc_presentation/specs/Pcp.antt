@@ -51,6 +51,11 @@ pub record HasShape {X : Type 0} (n : ℕ) (t : PerRelation X) : Type 0 where
   pub row_count : length t.commutators ≡ n
   pub row_lengths : (j : ℕ) → j < n → length (get_or t.commutators j []) ≡ j
 
+-- the relation has an empty right side and no tail
+pub record IsBareRelation (T : TailedPresentation) (r : Relation) : Type 0 where
+  pub side : right_side T.presentation r ≡ replicate (T.presentation.rank - side_start r) 0
+  pub tail : tail_of T r ≡ None
+
 -- the right side of a relation replaced
 abbrev pub with_side : Presentation → Relation → List ℕ → Presentation
 with_side P r e = let sides = with_entry (sides_of P) r e in

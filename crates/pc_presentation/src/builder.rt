@@ -53,13 +53,15 @@ pub struct PcpBuilder {
 impl Model for PcpBuilder {
     ghost use Rattle.std.specs.Prelude.{◌≡◌, length};
     ghost use Rattle.pc_presentation.specs.Relation.{relation_count};
-    ghost use Rattle.pc_presentation.specs.Builder.{Draft, flags_of};
+    ghost use Rattle.pc_presentation.specs.Builder.{Draft, flags_of, OthersAreBare};
 
     ghost Value = { Draft };
 
     ghost view = { λ b. record { built = b.pcp; given = flags_of b.pcp.presentation.rank b.given.items } };
 
-    ghost invariant = { λ b. length b.given.items ≡ relation_count b.pcp.presentation.rank };
+    ghost invariant = { λ b.
+        (length b.given.items ≡ relation_count b.pcp.presentation.rank)
+        × OthersAreBare (record { built = b.pcp; given = flags_of b.pcp.presentation.rank b.given.items }) };
 }
 
 impl PcpBuilder {

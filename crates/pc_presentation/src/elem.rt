@@ -1,12 +1,13 @@
 //! Elements: exponents of the generators, and a row over the tails.
 
-ghost use Rattle.std.specs.Prelude.{◌≡◌, ◌≤◌, ◌<◌, ◌-◌, get_or, length, replicate, slice_set, take, drop, ◌++◌, IfOk};
+ghost use Rattle.std.specs.Prelude.{◌≡◌, ◌≤◌, ◌<◌, ◌+◌, ◌-◌, get_or, length, replicate, slice_set, IfOk};
 ghost use Rattle.pq_base.specs.Limits.{max_rank};
 ghost use Rattle.fp_rows.specs.Rows.{IsRow, add_scaled};
 ghost use Rattle.fp_rows.specs.Row.{IsColumn};
 ghost use Rattle.pc_presentation.specs.Pcp.{unit_row};
 ghost use Rattle.pc_presentation.specs.Collection.{add_row};
-ghost use Rattle.pc_presentation.specs.Tailed.{Element, IsElement, one_of, with_state, cleared_after};
+ghost use Rattle.pc_presentation.specs.Commuting.{cleared_between};
+ghost use Rattle.pc_presentation.specs.Tailed.{Element, IsElement, one_of, with_state};
 
 use crate::pcp::Pcp;
 use arrayvec::ArrayVec;
@@ -78,15 +79,17 @@ impl Elem {
         self.tails.clear();
     }
 
-    /// Makes the exponents after generator i, counted from 1, 0; with i = 0 those of all generators.
-    pub fn clear_after(&mut self, i: u16)
-        requires { i ≤ length self.old.state.exponents }
+    /// Makes the exponents after generator i and before generator z, both counted from 1, 0.
+    pub fn clear_between(&mut self, i: u16, z: u16)
+        requires from_one { 1 ≤ i }
+        requires after { i < z }
+        requires in_range { z ≤ length self.old.state.exponents + 1 }
         ensures { self.new ≡ with_state self.old (record {
-          exponents = cleared_after i self.old.state.exponents;
+          exponents = cleared_between (i - 1) (z - 1) self.old.state.exponents;
           row = self.old.state.row;
         }) }
     {
-        clear_from(self.exponents.as_mut_slice(), i as usize);
+        self.exponents.as_mut_slice()[i as usize..z as usize - 1].fill(0);
     }
 
     /// Makes the element equal to the other, which has as many exponents and tails.
@@ -159,13 +162,4 @@ fn zero_exponents(rank: u16) -> ArrayVec<u8, RANK>
         exponents.push(0);
     }
     exponents
-}
-
-/// Makes the entries from place i on 0.
-fn clear_from(entries: &mut [u8], i: usize)
-    requires { i ≤ length entries.old }
-    ensures { entries.new ≡ take i entries.old ++ replicate (length entries.old - i) 0 }
-{
-    let (_, later) = entries.split_at_mut(i);
-    later.fill(0);
 }

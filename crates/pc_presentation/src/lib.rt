@@ -4,7 +4,8 @@
 //! exponents of its generators. `arithmetic` computes with elements over any collector. The `specs/` also say what a
 //! directed step, the plain rule and an overlap are; `laws` states what is proved of them: where overlaps agree the
 //! presentation is consistent, and normal words form a group. `rowed_laws` are those of presentations with rows, consistent
-//! or not, and `cut_laws` those of presentations cut after some generator.
+//! or not, `cut_laws` those of presentations cut after some generator, and `laws_of_pushes` say which pushes of the plain
+//! rule may be taken together.
 #![tactic(auto)]
 
 pub mod answer;
@@ -16,6 +17,7 @@ pub mod cut_laws;
 pub mod definition;
 pub mod elem;
 pub mod laws;
+pub mod laws_of_pushes;
 pub mod overlap;
 mod parts;
 pub mod pcp;

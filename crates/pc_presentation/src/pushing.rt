@@ -14,6 +14,7 @@ ghost use Rattle.pc_presentation.specs.ImageElements.{states_of, letter_value, A
 use crate::collect::Collect;
 use crate::elem::Elem;
 use crate::pcp::Pcp;
+use crate::syllable::Syllable;
 use pq_base::Prime;
 
 /// Pushes a generator, counted from 1, so many times.
@@ -32,8 +33,12 @@ pub(crate) fn push_times<C: Collect>(
     ensures element { IsElement pcp.now at.new }
     ensures pushed { at.new ≡ with_state at.old (push_word (C.meaning (rowed_presentation pcp.now)) at.old.state (replicate times (generator - 1))) }
 {
-    for _ in 0..times {
-        collector.push(pcp, at, generator);
+    if times > 0 {
+        let power = Syllable {
+            generator,
+            exponent: times,
+        };
+        collector.push_word(pcp, at, &[power], None);
     }
 }
 

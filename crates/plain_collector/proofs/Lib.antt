@@ -1,3 +1,5 @@
-pub mod Leads
-pub mod PlainSteps
 pub mod Progress
+pub mod AddedTails
+pub mod SavedEntries
+pub mod EmptySides
+pub mod Shortcuts

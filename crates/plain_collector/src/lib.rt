@@ -1,9 +1,12 @@
-//! The plain rule as a collector. Its pushes equal the plain rule of `pc_presentation`, rows of tails included. It recurs
-//! on later generators alone, so that it is never deeper than the rank; it takes no memory and copies no word.
+//! The plain rule as a collector. Its pushes equal the plain rule of `pc_presentation`, rows of tails included: what commutes
+//! stays in place, and copies of a generator are pushed together, where that gives exactly what the plain rule gives. It
+//! recurs on later generators alone, so that it is never deeper than the rank; it takes no memory and copies no word.
 #![tactic(auto)]
 
+mod commuting;
 pub mod laws;
 pub mod plain;
 mod steps;
+mod tails;
 
 pub use plain::Plain;

@@ -1,6 +1,7 @@
 //! The collector.
 
-use crate::steps::{add_tail, push, push_times};
+use crate::steps::{push, push_times};
+use crate::tails::add_tail;
 use pc_presentation::{Collect, Elem, Pcp, Syllable};
 use pq_base::NoMemory;
 use std::alloc::Global;

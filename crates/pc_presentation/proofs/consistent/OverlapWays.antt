@@ -1,20 +1,19 @@
 -- The two ways of an overlap as sparse words pushed on the element one: the letters of the left way, and those of the right
 -- way up to the right side of a relation, which follows with its tail.
-use Rattle.std.proofs.Common.{◌≡◌, ℕ, suc, pred, ◌-◌, ◌<◌, ◌≤◌, None, List, [], ◌∷◌, ◌++◌, length, replicate, ap, sym, ◌∙◌, subst, arith, append_assoc}
+use Rattle.std.proofs.Common.{◌≡◌, ℕ, suc, pred, ◌-◌, ◌<◌, ◌≤◌, None, List, [], ◌∷◌, ◌++◌, length, replicate, ap, sym, ◌∙◌, subst, arith, append_assoc, append-nil}
 use Rattle.pq_base.specs.Table.{AllBelow}
 use Rattle.pq_base.specs.Presentation.{commutator_side}
 use Rattle.pc_presentation.specs.declared.syllable.Syllable.{Syllable}
 use Rattle.pc_presentation.specs.declared.relation.Relation.TheVariants.{Commutator}
 use Rattle.pc_presentation.specs.Syllable.{syllable, AreGenerators}
 use Rattle.pc_presentation.specs.Pcp.{TailedPresentation, IsTailedPresentation}
-use Rattle.pc_presentation.specs.Rowed.{RowedPresentation}
 use Rattle.pc_presentation.specs.Collection.{Configuration, State, IsState, identity, spelled, add_row, push_word, push_configuration}
 use Rattle.pc_presentation.specs.Overlaps.{right_way}
 use Rattle.pc_presentation.specs.Overlaps.Overlap.{triple, left}
 use Rattle.pc_presentation.specs.Arithmetic.{IsMeaning}
 use Rattle.pc_presentation.specs.Tailed.{Element, rowed_presentation, IsElement, with_state, places_of, sparse_configuration}
 use Rattle.pc_presentation.specs.OverlapNumbers.{before_side}
-use Rattle.pc_presentation.proofs.presentations.WordTests.{All-head, All-tail}
+use Rattle.pc_presentation.proofs.presentations.WordTests.{All-cons, All-head, All-tail}
 use Rattle.pc_presentation.proofs.collecting.PlainRuns.{AllBelow-append, AllBelow-replicate}
 use Rattle.pc_presentation.proofs.collecting.PushLaws.{push_word-append}
 use Rattle.pc_presentation.proofs.rows.RowLaws.{row_sum-zeros, identity-state}
@@ -52,6 +51,27 @@ cleared_is_element T e e' h q =
       state = identity-state (rowed_presentation T) T.presentation.rank (omega arith);
     })
 
+-- a word without a tail
+pub push_configuration-no_tail : (T : TailedPresentation) (push : State → ℕ → State) → IsTailedPresentation T → IsMeaning (rowed_presentation T) push
+    → (s : State) → IsState (rowed_presentation T) T.presentation.rank s → (w : List Syllable) → AreGenerators T.presentation.rank w
+    → push_configuration (rowed_presentation T) push s (sparse_configuration T.tails w None) ≡ push_word push s (places_of w)
+push_configuration-no_tail T push is meaning s h w g =
+    let two = is.presentation.prime in
+    let t : State = push_word push s (places_of w) in
+    let v : IsState (rowed_presentation T) T.presentation.rank (push_word push s (places_of w)) =
+    pushed-state (rowed_presentation T) (rowed_presentation-is T is) (omega arith) push meaning (places_of w) s h
+    (places_of-below T.presentation.rank w g) in
+    ap (λ (x : List ℕ). let u : State = record { exponents = t.exponents; row = x } in u) (row_sum-zeros T.presentation.prime T.tails t.row v.row)
+
+-- a power of a generator alone
+pub push_configuration-power : (T : TailedPresentation) (push : State → ℕ → State) → IsTailedPresentation T → IsMeaning (rowed_presentation T) push
+    → (s : State) → IsState (rowed_presentation T) T.presentation.rank s → (g e : ℕ) → 1 ≤ g → g ≤ T.presentation.rank
+    → push_configuration (rowed_presentation T) push s (sparse_configuration T.tails (syllable g e ∷ []) None) ≡ push_word push s (replicate e (g - 1))
+push_configuration-power T push is meaning s h g e one last =
+    push_configuration-no_tail T push is meaning s h (syllable g e ∷ [])
+    (All-cons (λ (s : Syllable). (1 ≤ s.generator) × (s.generator ≤ T.presentation.rank)) (syllable g e) [] (one, last) (λ k d l. absurd (omega arith)))
+    ∙ ap (push_word push s) (append-nil (replicate e (g - 1)))
+
 -- a word from a state on, and a configuration behind it
 pub word-before : (T : TailedPresentation) (push : State → ℕ → State) → IsTailedPresentation T → IsMeaning (rowed_presentation T) push
     → (e m e' : Element) (s : State) → IsState (rowed_presentation T) T.presentation.rank s
@@ -60,16 +80,9 @@ pub word-before : (T : TailedPresentation) (push : State → ℕ → State) → 
     → e' ≡ with_state m (push_configuration (rowed_presentation T) push m.state c)
     → e' ≡ with_state e (push_configuration (rowed_presentation T) push s (record { word = places_of w ++ c.word; row = c.row }))
 word-before T push is meaning e m e' s h w c g q r =
-    let Y : RowedPresentation = rowed_presentation T in
-    let two = is.presentation.prime in
-    let t : State = push_word push s (places_of w) in
-    let v : IsState (rowed_presentation T) T.presentation.rank (push_word push s (places_of w)) =
-    pushed-state (rowed_presentation T) (rowed_presentation-is T is) (omega arith) push meaning (places_of w) s h
-    (places_of-below T.presentation.rank w g) in
     r
-    ∙ ap (λ (z : Element). with_state z (push_configuration (rowed_presentation T) push z.state c)) q
-    ∙ ap (λ (x : List ℕ). with_state e (push_configuration (rowed_presentation T) push (record { exponents = t.exponents; row = x }) c))
-    (row_sum-zeros T.presentation.prime T.tails t.row v.row)
+    ∙ ap (λ (z : Element). with_state z (push_configuration (rowed_presentation T) push z.state c))
+    (q ∙ ap (with_state e) (push_configuration-no_tail T push is meaning s h w g))
     ∙ ap (λ (z : State). with_state e (add_row T.presentation.prime c.row z)) (sym (push_word-append push s (places_of w) c.word))
 
 -- the right ways

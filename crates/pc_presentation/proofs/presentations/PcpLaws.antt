@@ -1,6 +1,6 @@
 -- What is kept of a presentation is one: entries with sparse words over later generators make a presentation with tails,
 -- whose right sides are those words.
-use Rattle.std.proofs.Common.{◌≡◌, ℕ, suc, ◌+◌, ◌-◌, ◌≤◌, None, List, [], length, refl, ap, sym, ◌∙◌, subst, arith, inl, inr}
+use Rattle.std.proofs.Common.{◌≡◌, ℕ, suc, ◌+◌, ◌-◌, ◌≤◌, None, List, [], length, refl, ap, sym, ◌∙◌, subst, arith}
 use Rattle.pq_base.specs.Limits.{max_rank}
 use Rattle.pq_base.specs.Prime.{IsOffered}
 use Rattle.pq_base.specs.Table.{AllBelow}
@@ -18,7 +18,7 @@ use Rattle.pc_presentation.proofs.presentations.RelationTables.{entry_at-per_rel
 pub one_less : (i : ℕ) → i ≡ suc i - 1
 one_less i = omega arith
 
-side_start-below : (n : ℕ) (r : Relation) → IsRelation n r → side_start r ≤ n
+pub side_start-below : (n : ℕ) (r : Relation) → IsRelation n r → side_start r ≤ n
 side_start-below n (Power i) h = h.1
 side_start-below n (Commutator j i) h = h.2
 

@@ -1,10 +1,11 @@
 -- Empty words make the presentation of the elementary abelian group, in which no relation has a tail.
-use Rattle.std.proofs.Common.{◌≡◌, ℕ, zero, suc, ◌+◌, ◌-◌, Option, None, false, List, [], ◌∷◌, get_or, length, replicate, refl, ap, ◌∙◌, arith}
+use Rattle.std.proofs.Common.{◌≡◌, ℕ, zero, suc, ◌+◌, ◌-◌, Option, None, false, List, [], ◌∷◌, get_or, length, replicate, refl, ap, sym, ◌∙◌, subst, arith}
+use Rattle.std.proofs.lemmas.List.{length-replicate}
 use Rattle.pq_base.specs.Elementary.{zeros, zero_powers, zero_rows}
 use Rattle.pc_presentation.specs.declared.relation.Relation.{Relation}
-use Rattle.pc_presentation.specs.Syllable.{spread}
-use Rattle.pc_presentation.specs.Relation.{side_start, PerRelation, tabulate, per_relation, relation_number}
-use Rattle.pc_presentation.specs.Store.{Entry, blank, stored_at}
+use Rattle.pc_presentation.specs.Syllable.{spread, AreSyllables}
+use Rattle.pc_presentation.specs.Relation.{IsTail, side_start, PerRelation, tabulate, per_relation, relation_number, relation_count}
+use Rattle.pc_presentation.specs.Store.{Entry, blank, stored_at, AreEntries}
 use Rattle.pc_presentation.specs.Pcp.{tailed_presentation, plain_presentation}
 use Rattle.pc_presentation.proofs.presentations.RelationTables.{tabulate_agree, per_relation_agree}
 use Rattle.pc_presentation.proofs.presentations.PcpLaws.{side_of}
@@ -59,6 +60,14 @@ zero_sides-per_relation n =
 
 stored_blank : (m n : ℕ) (r : Relation) → stored_at n (replicate m blank) r ≡ blank
 stored_blank m n r = get_or-replicate_same m (relation_number n r) blank
+
+-- what is kept of it
+pub AreEntries-plain : (p tails m n : ℕ) (entries : List Entry) → m ≡ relation_count n → entries ≡ replicate m blank → AreEntries p n tails entries
+AreEntries-plain p tails m n entries count e = subst (AreEntries p n tails) (sym e) (record {
+  count = length-replicate m blank ∙ count;
+  words = λ r h. subst (λ (x : Entry). AreSyllables p n (side_start r) x.word) (sym (stored_blank m n r)) tt;
+  in_range = λ r h. subst (λ (x : Entry). IsTail tails x.tail) (sym (stored_blank m n r)) tt;
+})
 
 pub plain-tailed : (p tails m : ℕ) (weights : List ℕ) → tailed_presentation p weights tails (replicate m blank) ≡ plain_presentation p weights tails
 plain-tailed p tails m weights =

@@ -1,6 +1,6 @@
 -- The table of a function of the relations of n generators: its entries are the function's values, and a table with one
 -- entry replaced is that of the function with one value replaced.
-use Rattle.std.proofs.Common.{◌≡◌, ◌≢◌, ℕ, zero, suc, ◌-◌, ◌<◌, ◌≤◌, List, [], ◌∷◌, get_or, length, refl, ap, sym, ◌∙◌, arith}
+use Rattle.std.proofs.Common.{◌≡◌, ◌≢◌, ℕ, zero, suc, ◌+◌, ◌-◌, ◌<◌, ◌≤◌, List, [], ◌∷◌, ◌++◌, get_or, length, refl, ap, sym, ◌∙◌, arith}
 use Rattle.std.proofs.Math.ListN.{set}
 use Rattle.pc_presentation.specs.declared.relation.Relation.{Relation}
 use Rattle.pc_presentation.specs.declared.relation.Relation.TheVariants.{Power, Commutator}
@@ -22,6 +22,13 @@ tabulate_agree zero f g h = refl
 tabulate_agree {X} (suc n) f g h =
     ap (λ (x : X). x ∷ tabulate n (λ i. f (suc i))) (h 0 (omega arith))
     ∙ ap (λ (xs : List X). g 0 ∷ xs) (tabulate_agree {X = X} n (λ i. f (suc i)) (λ i. g (suc i)) (λ i l. h (suc i) (omega arith)))
+
+-- one value more
+pub tabulate_more : {X : Type 0} (n : ℕ) (f : ℕ → X) → tabulate n f ++ f n ∷ [] ≡ tabulate (n + 1) f
+tabulate_more zero f = refl
+tabulate_more {X} (suc n) f =
+    let more : suc (n + 1) ≡ suc n + 1 = omega arith in
+    ap (λ (xs : List X). f 0 ∷ xs) (tabulate_more {X = X} n (λ i. f (suc i))) ∙ ap (λ (m : ℕ). tabulate m f) more
 
 pub set-tabulate : {X : Type 0} (n : ℕ) (f g : ℕ → X) (k : ℕ) (x : X) → k < n → g k ≡ x
     → ((i : ℕ) → i < n → i ≢ k → g i ≡ f i) → set (tabulate n f) k x ≡ tabulate n g

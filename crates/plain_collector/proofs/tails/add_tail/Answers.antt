@@ -3,8 +3,8 @@ use Rattle.pc_presentation.specs.Pcp.{unit_row, row_of}
 use Rattle.pc_presentation.specs.Collection.{add_row}
 use Rattle.pc_presentation.specs.Tailed.{Element, IsElement, with_state}
 use Rattle.pc_presentation.proofs.quotients.ElementConditions.{add_tail-element}
-use Rattle.plain_collector.proofs.Progress.{no_tail-added}
-use Rattle.plain_collector.proofs.steps.add_tail.Goals as goal
+use Rattle.plain_collector.proofs.AddedTails.{no_tail-added}
+use Rattle.plain_collector.proofs.tails.add_tail.Goals as goal
 
 pub returns-in-Some-clause-element : goal.returns-in-Some-clause-element
 returns-in-Some-clause-element c =

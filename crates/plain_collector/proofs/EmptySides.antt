@@ -1,0 +1,77 @@
+-- Relations with an empty word: their right sides are zeros, and without a tail they are bare. Letters that pass a generator
+-- with which they have an empty word are pushed alone, and leave their tails.
+use Rattle.std.proofs.Common.{◌≡◌, ℕ, zero, suc, ◌-◌, ◌<◌, ◌≤◌, Option, None, Some, is_some, Bool, true, false, not, IsTrue, List, [], ◌∷◌, length, replicate, refl, ap, sym, ◌∙◌, arith}
+use Rattle.pq_base.specs.Presentation.{commutator_side}
+use Rattle.pc_presentation.specs.declared.syllable.Syllable.{Syllable}
+use Rattle.pc_presentation.specs.declared.relation.Relation.{Relation}
+use Rattle.pc_presentation.specs.declared.relation.Relation.TheVariants.{Commutator}
+use Rattle.pc_presentation.specs.Syllable.{spread, syllables_of}
+use Rattle.pc_presentation.specs.Relation.{IsRelation, side_start}
+use Rattle.pc_presentation.specs.Pcp.{TailedPresentation, IsTailedPresentation, IsBareRelation, right_side, tail_of, row_of}
+use Rattle.pc_presentation.specs.Rowed.{RowedPresentation, commutator_row}
+use Rattle.pc_presentation.specs.Collection.{Configuration, State, spelled, add_row, push_word, push_configuration, plain_push}
+use Rattle.pc_presentation.specs.PushSteps.{passed}
+use Rattle.pc_presentation.specs.Tailed.{Element, rowed_presentation, with_state, side_with_tail}
+use Rattle.pc_presentation.proofs.presentations.SyllableLaws.{spread-syllables_of}
+use Rattle.pc_presentation.proofs.presentations.PlainLaws.{spread-nil}
+use Rattle.pc_presentation.proofs.presentations.RelationSides.{right_side-count, commutator_side-numbered}
+use Rattle.pc_presentation.proofs.collecting.PushLaws.{push_word-add_row}
+use Rattle.pc_presentation.proofs.collecting.PlainRule.{plain-rides, spelled-zeros}
+use Rattle.pc_presentation.proofs.quotients.PushesLeft.{after}
+use Rattle.plain_collector.specs.AddedRows.{add_row_times}
+
+no_syllables : (w : List Syllable) → length w ≡ 0 → w ≡ []
+no_syllables [] h = refl
+no_syllables (s ∷ w) h = absurd (omega arith)
+
+no_tail : (t : Option ℕ) (b : Bool) → is_some t ≡ not b → IsTrue b → t ≡ None
+no_tail None b e h = refl
+no_tail (Some x) true e h = cc
+no_tail (Some x) false e h = cc
+
+module _ (T : TailedPresentation) (is : IsTailedPresentation T) where
+  pub side-empty : (r : Relation) (w : List Syllable) → IsRelation T.presentation.rank r
+      → w ≡ syllables_of (side_start r) (right_side T.presentation r) → length w ≡ 0
+      → right_side T.presentation r ≡ replicate (T.presentation.rank - side_start r) 0
+  side-empty r w h q none =
+      let count = right_side-count T is r h in
+      let long : length (right_side T.presentation r) ≡ T.presentation.rank - side_start r = omega arith in
+      sym (spread-syllables_of (side_start r) (right_side T.presentation r))
+      ∙ ap (spread (length (right_side T.presentation r)) (side_start r)) (sym q ∙ no_syllables w none)
+      ∙ spread-nil (length (right_side T.presentation r)) (side_start r)
+      ∙ ap (λ (n : ℕ). replicate n 0) long
+
+  pub bare-empty : (r : Relation) (w : List Syllable) (t : Option ℕ) (b : Bool) → IsRelation T.presentation.rank r
+      → w ≡ syllables_of (side_start r) (right_side T.presentation r) → length w ≡ 0 → t ≡ tail_of T r → is_some t ≡ not b → IsTrue b → IsBareRelation T r
+  bare-empty r w t b h q none u is_none true_b = record { side = side-empty r w h q none; tail = sym u ∙ no_tail t b is_none true_b }
+
+-- letters that are passed with an empty word
+module _ (Y : RowedPresentation) (j i : ℕ) (c : Configuration)
+    (side : record { word = spelled (suc j) (commutator_side Y.base j i); row = commutator_row Y j i } ≡ c) (empty : c.word ≡ []) where
+  passed-empty : (s : State) → passed Y i s j ≡ add_row Y.base.prime c.row (plain_push Y s j)
+  passed-empty s =
+      ap (push_configuration Y (plain_push Y) (plain_push Y s j)) side
+      ∙ ap (λ (w : List ℕ). add_row Y.base.prime c.row (push_word (plain_push Y) (plain_push Y s j) w)) empty
+
+  copies-passed : (n : ℕ) (s : State)
+      → push_word (passed Y i) s (replicate n j) ≡ add_row_times Y.base.prime c.row n (push_word (plain_push Y) s (replicate n j))
+  copies-passed zero s = refl
+  copies-passed (suc n) s =
+      ap (λ (t : State). push_word (passed Y i) t (replicate n j)) (passed-empty s)
+      ∙ copies-passed n (add_row Y.base.prime c.row (plain_push Y s j))
+      ∙ ap (add_row_times Y.base.prime c.row n)
+      (push_word-add_row Y.base.prime (plain_push Y) (plain-rides Y Y.base.rank 0) c.row (plain_push Y s j) (replicate n j))
+
+-- of an element
+pub passed-together : (T : TailedPresentation) → IsTailedPresentation T → (e m e' : Element) (j i n : ℕ) → 1 ≤ i → i < j → j ≤ T.presentation.rank
+    → right_side T.presentation (Commutator j i) ≡ replicate (T.presentation.rank - j) 0
+    → m ≡ after (plain_push (rowed_presentation T)) e (replicate n (j - 1))
+    → e' ≡ with_state m (add_row_times T.presentation.prime (row_of T.tails (tail_of T (Commutator j i))) n m.state)
+    → e' ≡ after (passed (rowed_presentation T) (i - 1)) e (replicate n (j - 1))
+passed-together T is e m e' j i n one less last zeros p q =
+    let row : List ℕ = row_of T.tails (tail_of T (Commutator j i)) in
+    q
+    ∙ ap (λ (z : Element). with_state z (add_row_times T.presentation.prime row n z.state)) p
+    ∙ ap (with_state e)
+    (sym (copies-passed (rowed_presentation T) (j - 1) (i - 1) (side_with_tail T (Commutator j i)) (sym (commutator_side-numbered T is j i one less last))
+    (ap (spelled j) zeros ∙ spelled-zeros j (T.presentation.rank - j)) n e.state))

@@ -11,7 +11,7 @@ pub mod images;
 pub mod laws;
 pub mod rowed_laws;
 pub mod source;
-mod want;
+pub mod want;
 
 pub use cover::{Cover, cover_of, full_cover};
 pub use images::Images;

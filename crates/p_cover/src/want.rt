@@ -69,8 +69,8 @@ fn push_commutators_of(
     Ok(())
 }
 
-/// Puts the powers that define no generator at the end, those that qualify or the others.
-fn push_powers(
+/// Puts the powers that define no generator at the end of a list of sources, those that qualify or the others.
+pub fn push_powers(
     sources: &mut Vec<TailSource>,
     answer: &Answer,
     qualifying: bool,
@@ -84,8 +84,8 @@ fn push_powers(
     Ok(())
 }
 
-/// Puts the images that define no generator at the end.
-fn push_images(sources: &mut Vec<TailSource>, answer: &Answer) -> Result<(), NoMemory>
+/// Puts the images that define no generator at the end of a list of sources.
+pub fn push_images(sources: &mut Vec<TailSource>, answer: &Answer) -> Result<(), NoMemory>
     ensures { OnOk result (map source_of sources.new.items
         ≡ map source_of sources.old.items ++ wanted answer.now (class_of answer.now) false (all_images (length answer.now.names))) }
 {
@@ -97,8 +97,8 @@ fn push_images(sources: &mut Vec<TailSource>, answer: &Answer) -> Result<(), NoM
     Ok(())
 }
 
-/// Puts a source at the end, if it is wanted.
-fn push_wanted(
+/// Puts a source at the end of a list of sources, where it defines no generator, and qualifies or not, as is asked.
+pub fn push_wanted(
     sources: &mut Vec<TailSource>,
     answer: &Answer,
     qualifying: bool,

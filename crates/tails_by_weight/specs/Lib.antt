@@ -1,0 +1,5 @@
+pub mod LightCovers
+pub mod LightOverlaps
+pub mod LightParts
+pub mod WeightedRows
+pub mod WeightLaws

@@ -1,0 +1,9 @@
+pub mod AddedTails
+pub mod SavedEntries
+pub mod EmptySides
+pub mod Shortcuts
+pub mod Begun
+pub mod FrameLaws
+pub mod Passes
+pub mod StackLaws
+pub mod WordsLeft

@@ -1,0 +1,4 @@
+pub mod AddedRows
+pub mod Frames
+pub mod FrameSteps
+pub mod Stacks

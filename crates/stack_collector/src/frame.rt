@@ -1,0 +1,97 @@
+//! Frames: what a push that was begun still owes.
+
+ghost use Rattle.std.specs.Prelude.{◌≡◌, ◌≤◌, ◌<◌, ◌-◌, ℕ, get_or, length, replicate};
+ghost use Rattle.pq_base.specs.Limits.{max_rank};
+ghost use Rattle.pc_presentation.specs.Pcp.{IsTailedPresentation};
+ghost use Rattle.pc_presentation.specs.Collection.{plain_push};
+ghost use Rattle.pc_presentation.specs.Tailed.{rowed_presentation, Element};
+ghost use Rattle.stack_collector.specs.Frames.{side_word, pushed, finished, IsFrame};
+ghost use Rattle.stack_collector.specs.FrameSteps.{GoesOn};
+
+use pc_presentation::{Pcp, Relation};
+use pq_base::limits::RANK;
+
+/// What a push of a generator still owes, once its exponent is raised. Generators count from 1. First come copies of a
+/// letter, then what is left of the word of a relation, then the later letters that were set aside, each to be passed.
+#[derive(Clone, Copy, Debug)]
+pub(crate) struct Frame {
+    /// The generator that was pushed. It is 0 below all, where letters are pushed that pass nothing.
+    pub(crate) generator: u16,
+    /// Copies of this letter are to be pushed first.
+    pub(crate) letter: u16,
+    pub(crate) copies: u8,
+    /// The relation, and the number of the first syllable of its word that is still to be pushed.
+    pub(crate) relation: Relation,
+    pub(crate) place: usize,
+    /// So many copies of generator `next` are to be passed, and then the letters after it.
+    pub(crate) next: u16,
+    pub(crate) times: u8,
+    /// The exponents that were set aside, at their places, before place `end`.
+    pub(crate) later: [u8; RANK],
+    pub(crate) end: u16,
+}
+
+impl Frame {
+    /// Copies of a generator, and nothing else.
+    pub(crate) fn of_copies(pcp: &Pcp, generator: u16, copies: u8) -> Frame
+        requires presentation { IsTailedPresentation pcp.now }
+        requires from_one { 1 ≤ generator }
+        requires in_range { generator ≤ pcp.now.presentation.rank }
+        ensures frame { IsFrame pcp.now result }
+        ensures copies { (e : Element) →
+            finished pcp.now result e ≡ pushed pcp.now e (replicate copies (generator - 1)) }
+    {
+        let relation = Relation::Power(generator);
+        Frame {
+            generator: 0,
+            letter: generator,
+            copies,
+            relation,
+            place: pcp.word(relation).len(),
+            next: 0,
+            times: 0,
+            later: [0; RANK],
+            end: 0,
+        }
+    }
+
+    /// Takes the next syllable of the word.
+    pub(crate) fn take_syllable(&mut self, pcp: &Pcp)
+        requires presentation { IsTailedPresentation pcp.now }
+        requires frame { IsFrame pcp.now self.old }
+        requires none_before { self.old.copies ≡ 0 }
+        requires more { self.old.place < length (side_word pcp.now self.old.relation) }
+        ensures { GoesOn pcp.now self.old self.new }
+    {
+        let syllable = pcp.word(self.relation)[self.place];
+        self.letter = syllable.generator;
+        self.copies = syllable.exponent;
+        self.place += 1;
+    }
+
+    /// Takes the exponent of the next generator that was set aside.
+    pub(crate) fn take_exponent(&mut self, pcp: &Pcp)
+        requires presentation { IsTailedPresentation pcp.now }
+        requires frame { IsFrame pcp.now self.old }
+        requires none_before { self.old.times ≡ 0 }
+        requires more { self.old.next < self.old.end }
+        ensures { GoesOn pcp.now self.old self.new }
+    {
+        self.times = self.later[self.next as usize];
+        self.next += 1;
+    }
+}
+
+/// The entries from place `start` on and before place `end`, at these places. Places count from 0.
+pub(crate) fn saved(exponents: &[u8], start: u16, end: u16) -> [u8; RANK]
+    requires order { end ≤ length exponents.now }
+    requires limit { length exponents.now ≤ max_rank }
+    ensures count { length result ≡ max_rank }
+    ensures entries { (k : ℕ) → start ≤ k → k < end → get_or result k 0 ≡ get_or exponents.now k 0 }
+{
+    let mut copy = [0; RANK];
+    for k in start as usize..end as usize {
+        copy[k] = exponents[k];
+    }
+    copy
+}

@@ -1,0 +1,122 @@
+//! The collector.
+
+ghost use Rattle.std.specs.Prelude.{◌≡◌, ◌≤◌, ◌<◌, ◌-◌, [], ◌∷◌, ◌++◌, length, replicate, option_to_list, IsTrue, IsFalse, IsNone};
+ghost use Rattle.pc_presentation.specs.Collection.{plain_push};
+ghost use Rattle.pc_presentation.specs.Tailed.{rowed_presentation, IsElement};
+ghost use Rattle.stack_collector.specs.Frames.{pushed, finished, IsFrame};
+ghost use Rattle.stack_collector.specs.Stacks.{IsReady, IsRunning, Continues, HasEnded};
+
+use crate::frame::Frame;
+use crate::steps::{Progress, begin, step};
+use crate::tails::add_tail;
+use pc_presentation::{Collect, Elem, Pcp, Syllable};
+use pq_base::NoMemory;
+use std::alloc::Global;
+use std::marker::Model;
+
+/// The collector that pushes by the plain rule, and keeps a stack of frames that wait. None waits between pushes.
+#[derive(Debug, Drop)]
+pub struct Stack {
+    waiting: Vec<Frame>,
+}
+
+impl Model for Stack {
+    ghost use Rattle.std.specs.Prelude.{vec_capacity};
+    ghost use Rattle.stack_collector.specs.Stacks.{Waiting};
+
+    ghost Value = { Waiting };
+
+    ghost view = { λ s. record { frames = s.waiting.items; room = vec_capacity s.waiting } };
+}
+
+impl Collect for Stack {
+    ghost use Rattle.pc_presentation.specs.Collection.{plain_push};
+    ghost use Rattle.pc_presentation.proofs.quotients.CollectorArithmetic.{plain_rule_is_a_meaning};
+    ghost use Rattle.stack_collector.specs.Stacks.{IsReady};
+
+    ghost meaning = { plain_push };
+
+    ghost serves = { IsReady };
+
+    fn fresh(alloc: Global, pcp: &Pcp) -> Result<Stack, NoMemory> {
+        let frames = 2 * pcp.rank() as usize + 2;
+        Ok(Stack {
+            waiting: Vec::with_capacity(alloc, frames)?,
+        })
+    }
+
+    fn push(&mut self, pcp: &Pcp, at: &mut Elem, generator: u16) {
+        self.push_copies(pcp, at, generator, 1);
+    }
+
+    fn push_word(&mut self, pcp: &Pcp, at: &mut Elem, word: &[Syllable], tail: Option<u16>) {
+        for s in word {
+            self.push_copies(pcp, at, s.generator, s.exponent);
+        }
+        add_tail(pcp, at, tail);
+    }
+
+    ghost reaches = { plain_rule_is_a_meaning };
+}
+
+impl Stack {
+    /// Pushes copies of a generator, counted from 1.
+    fn push_copies(&mut self, pcp: &Pcp, at: &mut Elem, generator: u16, copies: u8)
+        requires ready { IsReady self.old pcp.now.presentation.rank }
+        requires element { IsElement pcp.now at.old }
+        requires from_one { 1 ≤ generator }
+        requires in_range { generator ≤ pcp.now.presentation.rank }
+        ensures ready { IsReady self.new pcp.now.presentation.rank }
+        ensures element { IsElement pcp.now at.new }
+        ensures pushed { at.new ≡ pushed pcp.now at.old (replicate copies (generator - 1)) }
+    {
+        let mut frame = Frame::of_copies(pcp, generator, copies);
+        while self.advance(pcp, at, &mut frame) {}
+    }
+
+    /// Does the next thing that the frame which works owes. Where that is a push, this frame waits, and that of the push works.
+    /// Where the frame owes nothing, the last that waits works. The answer is whether a frame works.
+    fn advance(&mut self, pcp: &Pcp, at: &mut Elem, frame: &mut Frame) -> bool
+        requires running { IsRunning pcp.now self.old frame.old at.old }
+        ensures on { IsTrue result → Continues pcp.now self.old frame.old at.old self.new frame.new at.new }
+        ensures end { IsFalse result → HasEnded pcp.now self.old frame.old at.old self.new at.new }
+    {
+        match step(pcp, at, frame) {
+            Progress::Within => true,
+            Progress::Push(generator) => {
+                self.suspend(*frame);
+                *frame = begin(pcp, at, generator);
+                true
+            }
+            Progress::Done => self.resume(frame),
+        }
+    }
+
+    /// Lets a frame wait. Takes no memory.
+    fn suspend(&mut self, frame: Frame)
+        requires room { length self.old.frames < self.old.room }
+        ensures frames { self.new.frames ≡ self.old.frames ++ frame ∷ [] }
+        ensures room { self.old.room ≤ self.new.room }
+    {
+        match self.waiting.push(frame) {
+            Ok(()) => (),
+            Err(_) => unreachable!(),
+        }
+    }
+
+    /// Lets the last frame that waits work, and says whether there is one.
+    fn resume(&mut self, frame: &mut Frame) -> bool
+        ensures on { IsTrue result → self.old.frames ≡ self.new.frames ++ frame.new ∷ [] }
+        ensures end { IsFalse result → self.old.frames ≡ [] }
+        ensures none { IsFalse result → self.new.frames ≡ [] }
+        ensures room { self.new.room ≡ self.old.room }
+    {
+        match self.waiting.pop() {
+            Some(last) => {
+                *frame = last;
+                true
+            }
+            None => false,
+        }
+    }
+}

@@ -1,0 +1,4 @@
+pub mod unique
+pub mod RestrictedAnswers
+pub mod SameDeaths
+pub mod UniqueAnswers

@@ -4,15 +4,18 @@ use Rattle.pq_base.specs.LPresentation.{LPresentation}
 use Rattle.pq_base.specs.Answer.{Answer}
 use Rattle.pc_presentation.specs.Rowed.{RowedPresentation}
 use Rattle.pc_presentation.specs.Collection.{State}
+use Rattle.pc_presentation.specs.declared.overlap.Overlap.{Overlap}
 use Rattle.p_cover.specs.Covers.{CoverOf}
 use Rattle.cover_quotient.specs.NextAnswer.{eliminated}
 use Rattle.derivation_log.specs.HeldSteps.{HeldStep}
 use Rattle.derivation_log.specs.HeldRuns.{IsHeldStep, kept_by, AreHeldSteps}
 
-module _ (L : LPresentation) (meaning : RowedPresentation → State → ℕ → State) (cover : Answer → CoverOf) where
-  pub held_steps-push : (A B : Answer) (ss : List HeldStep) (s : HeldStep) → AreHeldSteps L meaning cover A ss B
-      → IsHeldStep L meaning (cover B) s → kept_by (cover B) s ≢ [] → AreHeldSteps L meaning cover A (ss ++ s ∷ []) (eliminated (cover B) s.rows)
+module _ (L : LPresentation) (meaning : RowedPresentation → State → ℕ → State) (cover : Answer → CoverOf)
+    (tested : Answer → Overlap → Type 0) where
+  pub held_steps-push : (A B : Answer) (ss : List HeldStep) (s : HeldStep) → AreHeldSteps L meaning cover tested A ss B
+      → IsHeldStep L meaning (cover B) (tested B) s → kept_by (cover B) s ≢ []
+      → AreHeldSteps L meaning cover tested A (ss ++ s ∷ []) (eliminated (cover B) s.rows)
   held_steps-push A B [] s all one kept =
-      subst (λ (D : Answer). AreHeldSteps L meaning cover D (s ∷ []) (eliminated (cover B) s.rows)) (sym all) (one, kept, refl)
+      subst (λ (D : Answer). AreHeldSteps L meaning cover tested D (s ∷ []) (eliminated (cover B) s.rows)) (sym all) (one, kept, refl)
   held_steps-push A B (t ∷ ss) s all one kept =
       (all.0, all.1, held_steps-push (eliminated (cover A) t.rows) B ss s all.2 one kept)

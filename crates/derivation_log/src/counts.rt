@@ -1,6 +1,6 @@
 //! A log of numbers of rows.
 
-ghost use Rattle.std.specs.Prelude.{◌≡◌, []};
+ghost use Rattle.std.specs.Prelude.{◌≡◌, true, []};
 ghost use Rattle.derivation_log.specs.RowCounts.{counts_of};
 
 use crate::log::Log;
@@ -10,7 +10,7 @@ use pq_base::NoMemory;
 use std::alloc::Global;
 use std::marker::Model;
 
-/// A log that keeps how many rows each step added.
+/// A log that keeps how many rows each step added, over all tails and all overlaps.
 #[derive(Debug, Drop)]
 pub struct RowCounts {
     iterated: Vec<usize>,
@@ -49,6 +49,10 @@ impl RowCounts {
 
 impl Log for RowCounts {
     ghost use Rattle.derivation_log.specs.RowCounts.{HasCounts};
+
+    const FULL: bool = true;
+
+    ghost FULL = { true };
 
     ghost keeps = { HasCounts };
 

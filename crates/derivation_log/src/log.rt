@@ -1,6 +1,6 @@
 //! What is told of each step.
 
-ghost use Rattle.std.specs.Prelude.{◌≡◌, ◌+◌, List, length, IsOk, OnOk, OnErr};
+ghost use Rattle.std.specs.Prelude.{◌≡◌, ◌+◌, Bool, false, List, length, IsOk, OnOk, OnErr};
 ghost use Rattle.derivation_log.specs.declared.source.Run.{Run};
 ghost use Rattle.derivation_log.specs.HeldSteps.{HeldStep, told_step, other_run, KeepsOneMore, KeepsTheSame, NoSteps};
 
@@ -13,6 +13,12 @@ use pq_base::NoMemory;
 /// A log that keeps steps holds a list of them for each run. Which list that is may depend on what the log doesn't store: such a
 /// log keeps each list that it could have been told.
 pub trait Log {
+    /// Whether the steps that it is told of are over all tails and all overlaps, or over those alone whose weights leave room for a
+    /// generator of the next class.
+    const FULL: bool;
+
+    ghost FULL: { Bool };
+
     /// Whether the log keeps these steps of a run.
     ghost keeps: { Self → Run → List HeldStep → Type 0 };
 
@@ -34,11 +40,15 @@ pub trait Log {
         ensures refused { OnErr result ((r : Run) → KeepsTheSame (keeps self.old r) (keeps self.new r)) };
 }
 
-/// A log that keeps nothing. It never fails.
+/// A log that keeps nothing. It never fails. Steps may be cut by weight.
 #[derive(Clone, Copy, Debug, PartialEq, Eq)]
 pub struct NoLog;
 
 impl Log for NoLog {
+    const FULL: bool = false;
+
+    ghost FULL = { false };
+
     ghost keeps = { λ log run. NoSteps };
 
     fn step(

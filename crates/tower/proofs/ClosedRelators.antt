@@ -7,7 +7,7 @@ use Rattle.std.proofs.lemmas.List.Elements.{All-head, All-tail, All-weaker, All-
 use Rattle.pq_base.specs.LPresentation.{LPresentation, IsLPresentation, IsRelator, AreEndoNumbers, part}
 use Rattle.pq_base.specs.LPresentation.IsRelator.{fixed_relator, iterated_relator}
 use Rattle.pq_base.specs.LPresentation.Part.{iterated_part}
-use Rattle.pq_base.specs.Joined.{Joined, IsConsistent}
+use Rattle.pq_base.specs.Joined.{IsConsistent}
 use Rattle.pq_base.specs.Prime.{IsOffered}
 use Rattle.pq_base.proofs.words.JoinedLaws.{joined-sym, joined-trans}
 use Rattle.fp_rows.specs.Row.{PrimeRow}
@@ -15,11 +15,9 @@ use Rattle.fp_echelon.specs.Span.{AreRows, InSpan, EachInSpan}
 use Rattle.fp_echelon.specs.Basis.{Echelon}
 use Rattle.fp_echelon.specs.Matrix.{PrimeMatrix, entries_of}
 use Rattle.fp_echelon.proofs.SpanLaws.{IsRow-InSpan, InSpan-trans}
-use Rattle.fp_echelon.proofs.BasisSpans.{BasisAt, basis-at}
-use Rattle.pc_presentation.specs.Rowed.{flat}
 use Rattle.pc_presentation.specs.Collection.{State}
 use Rattle.pc_presentation.specs.Arithmetic.{IsMeaning}
-use Rattle.p_cover.specs.RowedAnswer.{rowed, tails_word}
+use Rattle.p_cover.specs.RowedAnswer.{rowed}
 use Rattle.p_cover.specs.Covers.{CoverOf, IsCover, rowed_cover}
 use Rattle.cover_quotient.specs.AnswerLaws.{HasRowOf}
 use Rattle.cover_quotient.specs.OverlapRows.{SpanOverlaps}
@@ -28,11 +26,12 @@ use Rattle.relator_spin.specs.declared.spun.Spun.{Spun}
 use Rattle.relator_spin.specs.Closure.{row_along, spun_row, spun_rows, AreNames}
 use Rattle.relator_spin.proofs.SpanParts.{EachInSpan-append}
 use Rattle.tower.specs.NamedParts.{recorded_source}
-use Rattle.tower.specs.StepRows.{StepRows, AreOver, HasSpannedRow, HaveTaken, step_sources}
+use Rattle.tower.specs.StepRows.{HasSpannedRow}
 use Rattle.tower.specs.SpunParts.{spun_relator, spun_relators, AreLifts, AreGivenRows}
+use Rattle.tower.specs.Closing.{IsTrivialRow, SufficeIn}
 use Rattle.tower.proofs.ClosedRows.{trivial-spanned, same-spanned}
 use Rattle.tower.proofs.SpunRows.{along-row, IsRow-spun_row, spun-row}
-use Rattle.tower.proofs.TakenSources.{contained-map, taken-overlaps, taken-relator}
+use Rattle.tower.proofs.TakenSources.{contained-map}
 
 -- what a closure adds to rows over a cover: named rows, which with the rows there were span all products
 pub record AreClosed (C : CoverOf) (xs : List PrimeRow) (ms : List PrimeMatrix) (o : List (List ℕ)) (names : List Spun)
@@ -67,7 +66,7 @@ module _ (L : LPresentation) (is : IsLPresentation L) (C : CoverOf) (cover : IsC
     (named : C.answer.names ≡ L.names) (ms : List PrimeMatrix) (lifts : AreLifts C L.endos ms) (xs : List PrimeRow)
     (given : AreGivenRows L C xs)
     (o : List (List ℕ)) (rows : AreRows C.answer.presentation.prime (length C.sources) o)
-    (trivial : All (λ (x : List ℕ). Joined (flat (rowed (rowed_cover C))) (tails_word (rowed_cover C) x) []) o)
+    (trivial : All (IsTrivialRow C) o)
     (names : List Spun) (added : List (List ℕ)) (closed : AreClosed C xs ms o names added) where
   abbrev p : ℕ
   p = C.answer.presentation.prime
@@ -75,18 +74,15 @@ module _ (L : LPresentation) (is : IsLPresentation L) (C : CoverOf) (cover : IsC
   abbrev q : ℕ
   q = length C.sources
 
-  abbrev IsTrivialRow : List ℕ → Type 0
-  IsTrivialRow x = Joined (flat (rowed (rowed_cover C))) (tails_word (rowed_cover C) x) []
-
   -- another span
   module _ (U : List (List ℕ)) (are : AreRows C.answer.presentation.prime (length C.sources) U)
       (overlaps : SpanOverlaps (rowed (rowed_cover C)) push U) where
-    trivial-held : (ys : List (List ℕ)) → AreRows C.answer.presentation.prime (length C.sources) ys → All IsTrivialRow ys
+    trivial-held : (ys : List (List ℕ)) → AreRows C.answer.presentation.prime (length C.sources) ys → All (IsTrivialRow C) ys
         → EachInSpan C.answer.presentation.prime (length C.sources) U ys
     trivial-held [] row all = tt
     trivial-held (y ∷ ys) row all = (
-      trivial-spanned C cover offered consistent push meaning U are overlaps y row.0 (All-head IsTrivialRow y ys all),
-      trivial-held ys row.1 (All-tail IsTrivialRow y ys all),
+      trivial-spanned C cover offered consistent push meaning U are overlaps y row.0 (All-head (IsTrivialRow C) y ys all),
+      trivial-held ys row.1 (All-tail (IsTrivialRow C) y ys all),
     )
 
     abbrev HasOne : Spun → Type 0
@@ -131,14 +127,9 @@ module _ (L : LPresentation) (is : IsLPresentation L) (C : CoverOf) (cover : IsC
             joined = along-row L C cover ms lifts xs given i l s numbers;
           }
 
-  -- the rows of a step that takes the relators named
-  pub taken-relators : (R : StepRows) → AreOver C R
-      → HaveTaken L C push (step_sources C.answer.presentation.rank (spun_relators names)) R
-      → (r : List ℤ) → IsRelator (part L iterated_part) r → HasRowOf C R.basis.added r
-  taken-relators R over taken =
-      let at : BasisAt C.answer.presentation.prime (length C.sources) R.basis.added R.basis.rows =
-      basis-at R.basis p q over.prime over.width over.basis in
-      closed-relators R.basis.added at.are (taken-overlaps L C push (spun_relators names) R taken)
-      (All-weaker (Contains names) (HasOne R.basis.added at.are (taken-overlaps L C push (spun_relators names) R taken))
-      (λ s h. taken-relator L C push (spun_relators names) R taken (spun_relator s) (contained-map spun_relator names s h)) names
+  -- rows that hold one of each relator named
+  pub named-suffice : SufficeIn L C push (spun_relators names)
+  named-suffice U are overlaps one =
+      closed-relators U are overlaps
+      (All-weaker (Contains names) (HasOne U are overlaps) (λ s h. one (spun_relator s) (contained-map spun_relator names s h)) names
       (All-contains_itself names))

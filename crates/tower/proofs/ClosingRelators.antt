@@ -1,37 +1,32 @@
 -- The relators that a closure of the overlap rows names suffice: rows of the overlaps and of these relators span a row of each iterated
 -- relator along each list of endomorphisms. The closure is made on a copy of the basis of the overlap rows.
-use Rattle.std.proofs.Common.{◌≡◌, ℕ, List, [], ◌++◌, length, map, sym, ◌∙◌, subst, arith}
+use Rattle.std.proofs.Common.{◌≡◌, ℕ, List, ◌++◌, length, sym, ◌∙◌, subst, arith}
 use Rattle.std.specs.List.{All, Contains}
 use Rattle.std.proofs.lemmas.List.Elements.{All-weaker, All-contains}
 use Rattle.pq_base.specs.LPresentation.{LPresentation, IsLPresentation, part}
 use Rattle.pq_base.specs.LPresentation.Part.{iterated_part}
-use Rattle.pq_base.specs.Joined.{Joined}
 use Rattle.fp_rows.specs.Row.{PrimeRow}
 use Rattle.fp_echelon.specs.Span.{EachInSpan}
 use Rattle.fp_echelon.specs.Basis.{Echelon}
 use Rattle.fp_echelon.specs.Matrix.{PrimeMatrix}
 use Rattle.fp_echelon.proofs.SpanLaws.{InSpan-trans}
 use Rattle.fp_echelon.proofs.BasisSpans.{BasisAt, basis-at}
-use Rattle.pc_presentation.specs.Rowed.{flat}
 use Rattle.pc_presentation.specs.Collection.{State}
 use Rattle.pc_presentation.specs.Arithmetic.{IsMeaning}
-use Rattle.p_cover.specs.RowedAnswer.{rowed, tails_word}
+use Rattle.p_cover.specs.RowedAnswer.{rowed}
 use Rattle.p_cover.specs.Covers.{CoverOf, IsCover, rowed_cover}
-use Rattle.consistency.specs.AllOverlaps.{all_overlaps}
 use Rattle.cover_quotient.specs.OverlapRows.{SpanOverlaps}
 use Rattle.cover_quotient.specs.Stages.{IsStage}
-use Rattle.derivation_log.specs.declared.source.RowSource.TheVariants.{Test}
 use Rattle.relator_spin.specs.declared.spun.Spun.{Spun}
 use Rattle.relator_spin.specs.Closure.{spun_rows, AreNames, AreMatricesOver, IsClosed}
 use Rattle.relator_spin.specs.Closure.{AreOver as AreRowsOver}
 use Rattle.tower.specs.declared.relator.Relator.{Relator}
-use Rattle.tower.specs.StepRows.{StepRows, AreOver, HaveTaken}
+use Rattle.tower.specs.StepRows.{StepRows, AreOver}
 use Rattle.tower.specs.SpunParts.{spun_relators, AreIterated, AreLifts, AreGivenRows}
-use Rattle.tower.specs.Closing.{IsCopy, SufficeIn}
-use Rattle.tower.proofs.TakenSources.{only_overlaps-span, only_overlaps-trivial}
+use Rattle.tower.specs.Closing.{IsCopy, IsTrivialRow, SufficeIn}
 use Rattle.tower.proofs.ClosedRows.{matrices-over, lifts-closed_in}
 use Rattle.tower.proofs.SpunRows.{rows-over, spun-iterated}
-use Rattle.tower.proofs.ClosedRelators.{HoldsProducts, closed-from, taken-relators}
+use Rattle.tower.proofs.ClosedRelators.{HoldsProducts, closed-from, named-suffice}
 
 -- what holds of the rows of a basis holds of those of a copy
 copy-all : (P : List ℕ → Type 0) (B K : Echelon) → IsCopy B K → All P B.added → All P K.added
@@ -54,8 +49,8 @@ named-by K ys xs ns ms added names same same' made named images =
 module _ (L : LPresentation) (is : IsLPresentation L) (c : ℕ) (C : CoverOf) (cover : IsCover C) (push : State → ℕ → State)
     (meaning : IsMeaning (rowed (rowed_cover C)) push) (stage : IsStage (part L iterated_part) C.answer.presentation.prime c C.answer)
     (ms : List PrimeMatrix) (lifts : AreLifts C L.endos ms) (xs : List PrimeRow) (given : AreGivenRows L C xs)
-    (O : StepRows) (over : AreOver C O) (taken : HaveTaken L C push (map Test (all_overlaps C.answer.presentation.rank)) O)
-    (B K : Echelon) (same : B ≡ O.basis) (copy : IsCopy B K) where
+    (O : StepRows) (over : AreOver C O) (overlaps : SpanOverlaps (rowed (rowed_cover C)) push O.basis.added)
+    (trivial : All (IsTrivialRow C) O.basis.added) (B K : Echelon) (same : B ≡ O.basis) (copy : IsCopy B K) where
   abbrev p : ℕ
   p = C.answer.presentation.prime
 
@@ -79,15 +74,13 @@ module _ (L : LPresentation) (is : IsLPresentation L) (c : ℕ) (C : CoverOf) (c
       subst (λ (n : ℕ). EachInSpan n q K.added O.basis.added) over.prime
       (subst (λ (n : ℕ). EachInSpan O.basis.prime n K.added O.basis.added) over.width copied.span)
 
-  overlaps : SpanOverlaps (rowed (rowed_cover C)) push K.added
-  overlaps o h =
+  copied-overlaps : SpanOverlaps (rowed (rowed_cover C)) push K.added
+  copied-overlaps o h =
       let two = at.two in
-      InSpan-trans p q K.added O.basis.added _ (omega arith) at.are spans (only_overlaps-span L C push O taken o h)
+      InSpan-trans p q K.added O.basis.added _ (omega arith) at.are spans (overlaps o h)
 
-  trivial : All (λ (x : List ℕ). Joined (flat (rowed (rowed_cover C))) (tails_word (rowed_cover C) x) []) K.added
-  trivial =
-      copy-all (λ (x : List ℕ). Joined (flat (rowed (rowed_cover C))) (tails_word (rowed_cover C) x) []) O.basis K copied
-      (only_overlaps-trivial L C push O taken cover meaning)
+  copied-trivial : All (IsTrivialRow C) K.added
+  copied-trivial = copy-all (IsTrivialRow C) O.basis K copied trivial
 
   -- the conditions of a closure
   pub closing-rows : AreRowsOver K.prime K.width xs
@@ -102,7 +95,8 @@ module _ (L : LPresentation) (is : IsLPresentation L) (c : ℕ) (C : CoverOf) (c
 
   pub closing-closed : IsClosed K.prime K.width ms K.added
   closing-closed =
-      lifts-closed_in C cover stage.offered stage.consistent push meaning K.added at.are overlaps L.endos ms lifts trivial K prime width
+      lifts-closed_in C cover stage.offered stage.consistent push meaning K.added at.are copied-overlaps L.endos ms lifts copied-trivial K
+      prime width
 
   -- what it names
   module _ (added : List (List ℕ)) (names : List Spun) (closed : IsNamedBy K xs ms added names) (rs : List Relator) (are : rs ≡ spun_relators names) where
@@ -112,5 +106,5 @@ module _ (L : LPresentation) (is : IsLPresentation L) (c : ℕ) (C : CoverOf) (c
     pub closing-suffice : SufficeIn L C push rs
     closing-suffice =
         subst (SufficeIn L C push) (sym are)
-        (taken-relators L is C cover stage.offered stage.consistent push meaning stage.names ms lifts xs given K.added at.are trivial names added
-        (closed-from C xs ms K names added prime width closed.made closed.named closed.images))
+        (named-suffice L is C cover stage.offered stage.consistent push meaning stage.names ms lifts xs given K.added at.are copied-trivial
+        names added (closed-from C xs ms K names added prime width closed.made closed.named closed.images))

@@ -5,6 +5,7 @@ use Rattle.std.proofs.lemmas.List.Elements.{All-head, All-tail, All-weaker, All-
 use Rattle.pq_base.specs.LPresentation.{LPresentation, part}
 use Rattle.pq_base.specs.LPresentation.Part.{iterated_part}
 use Rattle.pc_presentation.specs.Collection.{State}
+use Rattle.pc_presentation.specs.declared.overlap.Overlap.{Overlap}
 use Rattle.p_cover.specs.Covers.{CoverOf}
 use Rattle.derivation_log.specs.declared.source.RowSource.{RowSource}
 use Rattle.derivation_log.specs.declared.source.RowSource.TheVariants.{Test, Fixed as FixedSource, Iterated as IteratedSource}
@@ -53,24 +54,25 @@ module _ (L : LPresentation) (C : CoverOf) (push : State → ℕ → State) wher
   iterated-source (Iterated i s) named = tt
 
   -- the sources of a step that takes iterated relators
-  pub part-sources : (n : ℕ) (rs : List Relator) → AreIterated L rs → (s : RowSource) → Contains (step_sources n rs) s → IsPartSource s
-  part-sources n rs iterated s h =
-      step_source-cases IsPartSource (λ o. tt) n rs
+  pub part-sources : (tests : List Overlap) (rs : List Relator) → AreIterated L rs → (s : RowSource) → Contains (step_sources tests rs) s
+      → IsPartSource s
+  part-sources tests rs iterated s h =
+      step_source-cases IsPartSource tests (λ o c. tt) rs
       (λ r c. iterated-source r (All-contains (IsNamed (part L iterated_part)) rs r iterated c)) s h
 
   -- so what such a step has taken it has taken in the part
-  pub taken-in_part : (n : ℕ) (rs : List Relator) (R : StepRows) → AreIterated L rs → HaveTaken L C push (step_sources n rs) R
-      → HaveTaken (part L iterated_part) C push (step_sources n rs) R
-  taken-in_part n rs R iterated taken =
-      let of_step : (s : RowSource) → Contains (step_sources n rs) s → IsPartSource s = part-sources n rs iterated in
+  pub taken-in_part : (tests : List Overlap) (rs : List Relator) (R : StepRows) → AreIterated L rs
+      → HaveTaken L C push (step_sources tests rs) R → HaveTaken (part L iterated_part) C push (step_sources tests rs) R
+  taken-in_part tests rs R iterated taken =
+      let of_step : (s : RowSource) → Contains (step_sources tests rs) s → IsPartSource s = part-sources tests rs iterated in
       record {
         rows =
             rows-in_part R.noted R.basis.added
-            (All-weaker (Contains (step_sources n rs)) IsPartSource of_step R.noted taken.noted) taken.rows;
+            (All-weaker (Contains (step_sources tests rs)) IsPartSource of_step R.noted taken.noted) taken.rows;
         noted = taken.noted;
         spanned = λ i d l.
-            let s : RowSource = get_or (step_sources n rs) i d in
+            let s : RowSource = get_or (step_sources tests rs) i d in
             let row = taken.spanned i d l in
-            let source = of_step s (Contains-get_or (step_sources n rs) i d l) in
+            let source = of_step s (Contains-get_or (step_sources tests rs) i d l) in
             record { row = row.row; is = row-in_part s row.row source row.is; span = row.span };
       }

@@ -1,3 +1,4 @@
+pub mod StepKinds
 pub mod TakenRows
 pub mod TakenSources
 pub mod NamedLaws
@@ -6,6 +7,7 @@ pub mod Quotients
 pub mod ObeyedAlike
 pub mod NamedQuotients
 pub mod EnoughRelators
+pub mod LoggedSteps
 pub mod LoggedRuns
 pub mod InducedStages
 pub mod ClosedRows

@@ -13,13 +13,10 @@ use Rattle.pq_base.specs.Canonical.{up_to_class}
 use Rattle.pq_base.specs.Largest.{HasOrder}
 use Rattle.pc_presentation.specs.Pcp.{TailedPresentation, IsTailedPresentation}
 use Rattle.pc_presentation.specs.Parts.{trivial_answer}
-use Rattle.p_cover.specs.Covers.{CoverOf, IsCover, all_sources}
 use Rattle.derivation_log.specs.HeldSteps.{HeldStep, KeepsOneMore, KeepsTheSame}
-use Rattle.class_step.specs.declared.step.Step.{Step}
-use Rattle.cover_quotient.specs.Stages.{IsStage, IsNextStage, IsTower, OwesToObeying, full_cover_of}
-use Rattle.tower.specs.Answers.{IsStepFrom, IsGrown, IsQuotient, IsTooLarge}
+use Rattle.cover_quotient.specs.Stages.{IsStage, IsNextStage, IsTower}
+use Rattle.tower.specs.Answers.{IsGrown, IsQuotient, IsTooLarge}
 use Rattle.cover_quotient.proofs.stages.FirstStages.{stages_are_largest, stages_have_their_class, stages_have_no_smaller_class}
-use Rattle.cover_quotient.proofs.stages.OwedTails.{full_covers_owe}
 use Rattle.cover_quotient.proofs.stages.Towers.{towers_start, towers_grow, towers_stay, towers_bound_orders}
 
 pub quotient-from_tower : (L : LPresentation) (p c : ℕ) (A : Answer) → IsTower L p c A → A.presentation.rank ≤ max_rank → IsQuotient L p c A
@@ -37,13 +34,6 @@ pub own-stage : (L : LPresentation) (p c : ℕ) (A : Answer) → IsGrown L p c A
 own-stage L p c A grown =
     subst (λ (q : ℕ). IsStage L q (class_of A) A) (sym grown.tower.stage.prime)
     (subst (λ (k : ℕ). IsStage L p k A) (sym grown.class) grown.tower.stage)
-
--- a step as the tower takes it
-pub own-step : (L : LPresentation) (p c : ℕ) (A : Answer) (step : Step) → IsGrown L p c A
-    → IsStepFrom L A.presentation.prime (class_of A) A step → IsStepFrom L p c A step
-own-step L p c A step grown from =
-    subst (λ (k : ℕ). IsStepFrom L p k A step) grown.class
-    (subst (λ (q : ℕ). IsStepFrom L q (class_of A) A step) grown.tower.stage.prime from)
 
 pub grown-next : (L : LPresentation) (p c : ℕ) (A N : Answer) → IsGrown L p c A → IsNextStage L p c A N → IsGrown L p (c + 1) N
 grown-next L p c A N grown next =
@@ -90,11 +80,6 @@ pub rank-few : (P : Presentation) (T : TailedPresentation) → T.presentation �
 rank-few P T e is =
     let same : T.presentation.rank ≡ P.rank = ap (λ (Q : Presentation). Q.rank) e in
     omega (arith, same, is.rank_limit)
-
--- a full cover owes nothing
-pub full-owes : (L : LPresentation) (C : CoverOf) (A : Answer) → C ≡ full_cover_of A → IsCover C → OwesToObeying L C
-full-owes L C A e is =
-    full_covers_owe L C is (ap (λ (D : CoverOf). D.sources) e ∙ sym (ap (λ (D : CoverOf). all_sources D.answer) e))
 
 -- lists that are kept the same twice are kept the same
 pub same-twice : (X Y Z : List HeldStep → Type 0) → KeepsTheSame X Y → KeepsTheSame Y Z → KeepsTheSame X Z

@@ -19,10 +19,12 @@ use Rattle.pq_base.specs.Largest.{Kills}
 use Rattle.pq_base.proofs.tables.TableSeries.{table_class-weaken}
 use Rattle.pc_presentation.specs.Collection.{State}
 use Rattle.pc_presentation.specs.Arithmetic.{IsMeaning}
+use Rattle.pc_presentation.specs.declared.overlap.Overlap.{Overlap}
 use Rattle.pc_presentation.specs.Parts.{trivial_answer}
 use Rattle.p_cover.specs.RowedAnswer.{rowed}
 use Rattle.p_cover.specs.Covers.{CoverOf, rowed_cover}
 use Rattle.cover_quotient.specs.AnswerLaws.{HasRowOf}
+use Rattle.cover_quotient.specs.OverlapRows.{SpanOverlaps}
 use Rattle.cover_quotient.specs.Stages.{IsStage, OwesToObeying, IsBasisOfRows}
 use Rattle.cover_quotient.specs.StageLaws.{IsStepOf}
 use Rattle.cover_quotient.proofs.stages.FirstStages.{trivial_answers_are_stages, stages_are_largest, stage-kills, stages_of_more_relators}
@@ -39,7 +41,7 @@ use Rattle.tower.proofs.ClassSteps.{step-from}
 use Rattle.tower.proofs.InducedStages.{died-zero}
 use Rattle.tower.proofs.NamedLaws.{named-part_is, named-relator, named-all}
 use Rattle.tower.proofs.Quotients.{grown-first, grown-next}
-use Rattle.tower.proofs.TakenSources.{taken-overlaps, taken-trusted}
+use Rattle.tower.proofs.TakenSources.{taken-trusted}
 
 -- an iterated relator by its numbers
 pub iterated-relator : (L : LPresentation) (r : Relator) → IsNamed (part L iterated_part) r
@@ -82,8 +84,8 @@ grown-kills L p c A grown = stage-kills (part L iterated_part) p c A grown.tower
 
 module _ (L : LPresentation) (is : IsLPresentation L) (p c : ℕ) (recorded new : List Relator) (C : CoverOf) (push : State → ℕ → State)
     (R : StepRows) (grown : IsSpunGrown L recorded p c C.answer) (iterated : AreIterated L new)
-    (meaning : IsMeaning (rowed (rowed_cover C)) push) (over : AreOver C R)
-    (taken : HaveTaken L C push (step_sources C.answer.presentation.rank new) R)
+    (meaning : IsMeaning (rowed (rowed_cover C)) push) (over : AreOver C R) (tests : List Overlap)
+    (taken : HaveTaken L C push (step_sources tests new) R) (overlaps : SpanOverlaps (rowed (rowed_cover C)) push R.basis.added)
     (every : (r : List ℤ) → IsRelator (part L iterated_part) r → HasRowOf C R.basis.added r) where
   -- for any presentation whose relators have rows in the span, and that has those which were taken
   rows-of : (M : LPresentation) → OwesToObeying M C → ((r : List ℤ) → IsRelator M r → HasRowOf C R.basis.added r)
@@ -92,9 +94,9 @@ module _ (L : LPresentation) (is : IsLPresentation L) (p c : ℕ) (recorded new 
     basis = over.basis;
     prime = over.prime;
     width = over.width;
-    overlaps = taken-overlaps L C push new R taken;
+    overlaps = overlaps;
     relators = rows;
-    trusted = taken-trusted L C push new R taken is owes.cover meaning grown.stage.names M relators;
+    trusted = taken-trusted L C push tests new R taken is owes.cover meaning grown.stage.names M relators;
   }
 
   -- the step of all iterated relators

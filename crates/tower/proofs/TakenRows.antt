@@ -31,20 +31,20 @@ last-row p q (r ∷ rows) x h = last-row p q rows x h.1
 span-at : (B : Echelon) (p q : ℕ) (x : List ℕ) → B.prime ≡ p → B.width ≡ q → InSpan B.prime B.width B.added x → InSpan p q B.added x
 span-at B p q x e l h = subst (λ (n : ℕ). InSpan n q B.added x) e (subst (λ (m : ℕ). InSpan B.prime m B.added x) l h)
 
+-- what comes next in a list is in it
+next-in : {X : Type 0} (xs yielded left rest : List X) (x : X) → yielded ++ left ≡ xs → left ≡ x ∷ rest → Contains xs x
+next-in {X} xs yielded left rest x whole step =
+    subst (λ (l : List X). Contains l x) (append_assoc yielded (x ∷ []) rest ∙ ap (λ (l : List X). yielded ++ l) (sym step) ∙ whole)
+    (Contains-append_left (yielded ++ x ∷ []) rest x (Contains-push yielded x))
+
 -- the overlap that comes next is one
 pub next-overlap : (n : ℕ) (os left rest : List Overlap) (o : Overlap) → os ++ left ≡ all_overlaps n → left ≡ o ∷ rest → AreOverlapNumbers n o
-next-overlap n os left rest o all step =
-    let here : Contains ((os ++ o ∷ []) ++ rest) o = Contains-append_left (os ++ o ∷ []) rest o (Contains-push os o) in
-    ((each_overlap_once n).members o).0
-    (subst (λ (l : List Overlap). Contains l o) (append_assoc os (o ∷ []) rest ∙ ap (λ (l : List Overlap). os ++ l) (sym step) ∙ all) here)
+next-overlap n os left rest o whole step = ((each_overlap_once n).members o).0 (next-in (all_overlaps n) os left rest o whole step)
 
--- what holds of all sources holds of the one that comes next
-pub next-source : (P : RowSource → Type 0) (sources yielded left rest : List RowSource) (s : RowSource) → All P sources
-    → yielded ++ left ≡ sources → left ≡ s ∷ rest → P s
-next-source P sources yielded left rest s all whole step =
-    let here : Contains ((yielded ++ s ∷ []) ++ rest) s = Contains-append_left (yielded ++ s ∷ []) rest s (Contains-push yielded s) in
-    All-contains P sources s all
-    (subst (λ (l : List RowSource). Contains l s) (append_assoc yielded (s ∷ []) rest ∙ ap (λ (l : List RowSource). yielded ++ l) (sym step) ∙ whole) here)
+-- what holds of all members of a list holds of the one that comes next
+pub next-member : {X : Type 0} (P : X → Type 0) (xs yielded left rest : List X) (x : X) → All P xs → yielded ++ left ≡ xs → left ≡ x ∷ rest
+    → P x
+next-member P xs yielded left rest x all whole step = All-contains P xs x all (next-in xs yielded left rest x whole step)
 
 -- there is room for one more row
 pub over-spare : (C : CoverOf) (R : StepRows) → AreOver C R → 1 ≤ R.basis.spare

@@ -4,32 +4,30 @@
 use Rattle.std.proofs.Common.{◌≡◌, ℕ, zero, suc, ◌<◌, List, [], ◌∷◌, length, map, refl, ap, sym, ◌∙◌, subst, arith, inl, inr}
 use Rattle.std.specs.List.{All, Contains}
 use Rattle.std.proofs.lemmas.List.{length-map, get_or-map}
-use Rattle.std.proofs.lemmas.List.Elements.{All-nil, All-cons, All-head, All-tail, All-contains, Contains-append_left, Contains-append_right, Contains-append_cases}
+use Rattle.std.proofs.lemmas.List.Elements.{All-nil, All-cons, All-head, All-tail, All-weaker, All-contains, Contains-append_left, Contains-append_right, Contains-append_cases}
 use Rattle.pq_base.specs.LPresentation.{LPresentation, IsLPresentation, IsRelator}
 use Rattle.pq_base.specs.Table.{value}
-use Rattle.pq_base.specs.Joined.{Joined}
 use Rattle.fp_echelon.specs.Span.{InSpan}
 use Rattle.pc_presentation.specs.declared.overlap.Overlap.{Overlap}
 use Rattle.pc_presentation.specs.OverlapNumbers.{overlap_of}
 use Rattle.pc_presentation.specs.OverlapRows.{overlap_row}
-use Rattle.pc_presentation.proofs.consistent.OverlapNumberLaws.{numbered, numbered-is, overlap_of-numbered}
-use Rattle.pc_presentation.specs.Rowed.{flat}
 use Rattle.pc_presentation.specs.Collection.{State}
 use Rattle.pc_presentation.specs.Arithmetic.{IsMeaning}
-use Rattle.p_cover.specs.RowedAnswer.{rowed, tails_word}
+use Rattle.p_cover.specs.RowedAnswer.{rowed}
 use Rattle.p_cover.specs.Covers.{CoverOf, IsCover, rowed_cover}
-use Rattle.consistency.specs.AllOverlaps.{all_overlaps}
-use Rattle.consistency.proofs.OverlapList.{each_overlap_once}
-use Rattle.cover_quotient.specs.OverlapRows.{SpanOverlaps}
 use Rattle.cover_quotient.specs.AnswerLaws.{HasRowOf}
 use Rattle.cover_quotient.specs.Stages.{IsTrusted}
 use Rattle.derivation_log.specs.declared.source.RowSource.{RowSource}
 use Rattle.derivation_log.specs.declared.source.RowSource.TheVariants.{Test}
 use Rattle.derivation_log.specs.RowSources.{source_word, IsRowOf, AreRowsOf}
+use Rattle.derivation_log.specs.HeldRuns.{IsTestedSource}
 use Rattle.derivation_log.proofs.RowSources.{row_of_overlap-trivial, row_of_source-joined, row_of_source-justified}
 use Rattle.tower.specs.declared.relator.Relator.{Relator}
+use Rattle.tower.specs.declared.relator.Relator.TheVariants.{Fixed, Iterated}
 use Rattle.tower.specs.NamedParts.{named_word, recorded_source}
 use Rattle.tower.specs.StepRows.{StepRows, HasSpannedRow, HaveTaken, step_sources}
+use Rattle.tower.specs.Closing.{IsTrivialRow}
+use Rattle.tower.proofs.StepKinds.{SpanTests}
 
 -- the members of a list of images
 pub contained-map : {X Y : Type 0} (f : X → Y) (xs : List X) (x : X) → Contains xs x → Contains (map f xs) (f x)
@@ -44,13 +42,14 @@ from-contained_map f (x ∷ xs) s (suc k, l, e) =
     let rest = from-contained_map f xs s (k, omega arith, e) in
     (rest.0, (suc rest.1.0, omega (arith, rest.1.1), rest.1.2), rest.2)
 
--- a source of a step is an overlap or one of the relators
-pub step_source-cases : (P : RowSource → Type 0) → ((o : Overlap) → P (Test o)) → (n : ℕ) (rs : List Relator)
-    → ((r : Relator) → Contains rs r → P (recorded_source r)) → (s : RowSource) → Contains (step_sources n rs) s → P s
-step_source-cases P test n rs relator s h = elim (Contains-append_cases (map Test (all_overlaps n)) (map recorded_source rs) s h) [
+-- a source of a step is one of the overlaps or one of the relators
+pub step_source-cases : (P : RowSource → Type 0) (tests : List Overlap) → ((o : Overlap) → Contains tests o → P (Test o))
+    → (rs : List Relator) → ((r : Relator) → Contains rs r → P (recorded_source r)) → (s : RowSource) → Contains (step_sources tests rs) s
+    → P s
+step_source-cases P tests test rs relator s h = elim (Contains-append_cases (map Test tests) (map recorded_source rs) s h) [
   | inl c ↦
-      let e = from-contained_map Test (all_overlaps n) s c in
-      subst P e.2 (test e.0)
+      let e = from-contained_map Test tests s c in
+      subst P e.2 (test e.0 e.1)
   | inr c ↦
       let e = from-contained_map recorded_source rs s c in
       subst P e.2 (relator e.0 e.1)
@@ -67,34 +66,36 @@ rows_of-all L C push P Q one (s ∷ ss) (x ∷ xs) all rows =
     All-cons Q x xs (one s x (All-head P s ss all) rows.0) (rows_of-all L C push P Q one ss xs (All-tail P s ss all) rows.1)
 
 -- the span holds the row of each overlap that is among the sources
-module _ (L : LPresentation) (C : CoverOf) (push : State → ℕ → State) (ss : List RowSource) (R : StepRows)
-    (taken : HaveTaken L C push ss R) where
-  overlaps-taken : ((o : Overlap) → Contains (all_overlaps C.answer.presentation.rank) o → Contains ss (Test o))
-      → SpanOverlaps (rowed (rowed_cover C)) push R.basis.added
-  overlaps-taken among o h =
-      let n : ℕ = C.answer.presentation.rank in
-      let row =
-      All-contains (HasSpannedRow L C push R.basis.added) ss (Test (numbered o)) taken.spanned
-      (among (numbered o) (((each_overlap_once n).members (numbered o)).1 (numbered-is n o h))) in
-      let found : row.row ≡ overlap_row (rowed (rowed_cover C)) push (overlap_of (numbered o)) = row.is.row.row in
-      subst (InSpan C.answer.presentation.prime (length C.sources) R.basis.added)
-      (found ∙ ap (overlap_row (rowed (rowed_cover C)) push) (overlap_of-numbered o)) row.span
+overlaps-taken : (L : LPresentation) (C : CoverOf) (push : State → ℕ → State) (ss : List RowSource) (R : StepRows)
+    → HaveTaken L C push ss R → (tests : List Overlap) → ((o : Overlap) → Contains tests o → Contains ss (Test o))
+    → SpanTests C push tests R.basis.added
+overlaps-taken L C push ss R taken tests among o h =
+    let row = All-contains (HasSpannedRow L C push R.basis.added) ss (Test o) taken.spanned (among o h) in
+    let found : row.row ≡ overlap_row (rowed (rowed_cover C)) push (overlap_of o) = row.is.row.row in
+    subst (InSpan C.answer.presentation.prime (length C.sources) R.basis.added) found row.span
 
 -- after a step
-module _ (L : LPresentation) (C : CoverOf) (push : State → ℕ → State) (rs : List Relator) (R : StepRows)
-    (taken : HaveTaken L C push (step_sources C.answer.presentation.rank rs) R) where
-  pub taken-overlaps : SpanOverlaps (rowed (rowed_cover C)) push R.basis.added
-  taken-overlaps =
-      let n : ℕ = C.answer.presentation.rank in
-      overlaps-taken L C push (step_sources n rs) R taken
-      (λ o h. Contains-append_left (map Test (all_overlaps n)) (map recorded_source rs) (Test o) (contained-map Test (all_overlaps n) o h))
+module _ (L : LPresentation) (C : CoverOf) (push : State → ℕ → State) (tests : List Overlap) (rs : List Relator) (R : StepRows)
+    (taken : HaveTaken L C push (step_sources tests rs) R) where
+  pub taken-tests : SpanTests C push tests R.basis.added
+  taken-tests =
+      overlaps-taken L C push (step_sources tests rs) R taken tests
+      (λ o h. Contains-append_left (map Test tests) (map recorded_source rs) (Test o) (contained-map Test tests o h))
 
   pub taken-relator : (r : Relator) → Contains rs r → HasSpannedRow L C push R.basis.added (recorded_source r)
   taken-relator r h =
-      let n : ℕ = C.answer.presentation.rank in
-      All-contains (HasSpannedRow L C push R.basis.added) (step_sources n rs) (recorded_source r) taken.spanned
-      (Contains-append_right (map Test (all_overlaps n)) (map recorded_source rs) (recorded_source r)
-      (contained-map recorded_source rs r h))
+      All-contains (HasSpannedRow L C push R.basis.added) (step_sources tests rs) (recorded_source r) taken.spanned
+      (Contains-append_right (map Test tests) (map recorded_source rs) (recorded_source r) (contained-map recorded_source rs r h))
+
+  -- each source that was noted is a relator or an overlap that is tested
+  pub taken-tested : All (IsTestedSource (Contains tests)) R.noted
+  taken-tested =
+      All-weaker (Contains (step_sources tests rs)) (IsTestedSource (Contains tests))
+      (step_source-cases (IsTestedSource (Contains tests)) tests (λ o h. h) rs (λ r h. relator-tested r)) R.noted taken.noted
+    where
+      relator-tested : (r : Relator) → IsTestedSource (Contains tests) (recorded_source r)
+      relator-tested (Fixed i) = tt
+      relator-tested (Iterated i s) = tt
 
   module _ (is : IsLPresentation L) (cover : IsCover C) (meaning : IsMeaning (rowed (rowed_cover C)) push)
       (names : C.answer.names ≡ L.names) where
@@ -111,29 +112,25 @@ module _ (L : LPresentation) (C : CoverOf) (push : State → ℕ → State) (rs 
     pub taken-trusted : (M : LPresentation) → ((r : Relator) → Contains rs r → IsRelator M (named_word L r))
         → All (IsTrusted M C) R.basis.added
     taken-trusted M relators =
-        rows_of-all L C push (Contains (step_sources C.answer.presentation.rank rs)) (IsTrusted M C)
+        rows_of-all L C push (Contains (step_sources tests rs)) (IsTrusted M C)
         (λ s x h row T f obeys.
         row_of_source-justified C cover push meaning L is names T f s x
-        (step_source-cases (λ (t : RowSource). value T f (source_word L t) ≡ 0) (λ o. refl) C.answer.presentation.rank rs
+        (step_source-cases (λ (t : RowSource). value T f (source_word L t) ≡ 0) tests (λ o k. refl) rs
         (λ r k. obeys.kills (named_word L r) (relators r k)) s h) row)
         R.noted R.basis.added taken.noted taken.rows
 
 -- after the overlaps alone
-module _ (L : LPresentation) (C : CoverOf) (push : State → ℕ → State) (R : StepRows)
-    (taken : HaveTaken L C push (map Test (all_overlaps C.answer.presentation.rank)) R) where
-  pub only_overlaps-span : SpanOverlaps (rowed (rowed_cover C)) push R.basis.added
-  only_overlaps-span =
-      let n : ℕ = C.answer.presentation.rank in
-      overlaps-taken L C push (map Test (all_overlaps n)) R taken (λ o h. contained-map Test (all_overlaps n) o h)
+module _ (L : LPresentation) (C : CoverOf) (push : State → ℕ → State) (tests : List Overlap) (R : StepRows)
+    (taken : HaveTaken L C push (map Test tests) R) where
+  pub only_tests-span : SpanTests C push tests R.basis.added
+  only_tests-span = overlaps-taken L C push (map Test tests) R taken tests (λ o h. contained-map Test tests o h)
 
   -- each row is trivial
-  pub only_overlaps-trivial : IsCover C → IsMeaning (rowed (rowed_cover C)) push
-      → All (λ (x : List ℕ). Joined (flat (rowed (rowed_cover C))) (tails_word (rowed_cover C) x) []) R.basis.added
-  only_overlaps-trivial cover meaning =
-      rows_of-all L C push (Contains (map Test (all_overlaps C.answer.presentation.rank)))
-      (λ (x : List ℕ). Joined (flat (rowed (rowed_cover C))) (tails_word (rowed_cover C) x) [])
+  pub only_tests-trivial : IsCover C → IsMeaning (rowed (rowed_cover C)) push → All (IsTrivialRow C) R.basis.added
+  only_tests-trivial cover meaning =
+      rows_of-all L C push (Contains (map Test tests)) (IsTrivialRow C)
       (λ s x h row.
-      let e = from-contained_map Test (all_overlaps C.answer.presentation.rank) s h in
+      let e = from-contained_map Test tests s h in
       let test : IsRowOf L C push (Test e.0) x = subst (λ (t : RowSource). IsRowOf L C push t x) (sym e.2) row in
       row_of_overlap-trivial C cover push meaning L e.0 x test.numbers test.row)
       R.noted R.basis.added taken.noted taken.rows

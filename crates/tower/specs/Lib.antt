@@ -1,4 +1,5 @@
 pub mod NamedParts
+pub mod StepKinds
 pub mod StepRows
 pub mod SpunParts
 pub mod Closing

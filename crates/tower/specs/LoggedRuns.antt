@@ -1,31 +1,31 @@
 -- What a log that keeps steps holds after a run, and after one that was refused.
 -- From: Newman and O'Brien's p-quotient method, one class after the other.
-use Rattle.std.specs.Prelude.{◌≡◌, ◌<◌, ℕ, List, length}
+use Rattle.std.specs.Prelude.{◌≡◌, ◌<◌, ℕ, Bool, List, length}
 use Rattle.pq_base.specs.LPresentation.{LPresentation}
 use Rattle.pq_base.specs.Answer.{Answer}
 use Rattle.pc_presentation.specs.Rowed.{RowedPresentation}
 use Rattle.pc_presentation.specs.Collection.{State}
 use Rattle.pc_presentation.specs.Parts.{trivial_answer}
-use Rattle.cover_quotient.specs.Stages.{full_cover_of}
 use Rattle.derivation_log.specs.HeldSteps.{HeldStep}
 use Rattle.derivation_log.specs.HeldRuns.{AreHeldSteps, IsHeldRun}
+use Rattle.tower.specs.StepKinds.{step_cover, IsTested}
 use Rattle.tower.specs.declared.refusal.TowerRefusal.{TowerRefusal}
 use Rattle.tower.specs.declared.refusal.TowerRefusal.TheVariants.{TooLarge, NoMemory}
 
--- n steps over full covers are kept, which lead from the trivial answer to this one
-pub record HoldsSteps (L : LPresentation) (meaning : RowedPresentation → State → ℕ → State) (p n : ℕ) (keeps : List HeldStep → Type 0)
+-- n steps are kept, over full covers or over those cut by weight, which lead from the trivial answer to this one
+pub record HoldsSteps (full : Bool) (L : LPresentation) (meaning : RowedPresentation → State → ℕ → State) (p n : ℕ) (keeps : List HeldStep → Type 0)
     (A : Answer) : Type 0 where
   pub steps : List HeldStep
   pub kept : keeps steps
-  pub made : AreHeldSteps L meaning full_cover_of (trivial_answer p L.names) steps A
+  pub made : AreHeldSteps L meaning (step_cover full) (IsTested full) (trivial_answer p L.names) steps A
   pub count : length steps ≡ n
 
 -- the steps of a run to class c are kept, which make this answer
-pub record HoldsRun (L : LPresentation) (meaning : RowedPresentation → State → ℕ → State) (p c : ℕ) (keeps : List HeldStep → Type 0)
+pub record HoldsRun (full : Bool) (L : LPresentation) (meaning : RowedPresentation → State → ℕ → State) (p c : ℕ) (keeps : List HeldStep → Type 0)
     (A : Answer) : Type 0 where
   pub steps : List HeldStep
   pub kept : keeps steps
-  pub made : IsHeldRun L meaning full_cover_of p c steps A
+  pub made : IsHeldRun L meaning (step_cover full) (IsTested full) p c steps A
 
 -- n steps were done before a run to class c was refused, and lead to this answer: all to the class that is too large, whose answer
 -- has the rank named; or those of fewer classes, where memory was wanting
@@ -34,9 +34,9 @@ IsDoneBefore c (TooLarge part k rank) n A = (n ≡ k) × (A.presentation.rank �
 IsDoneBefore c NoMemory n A = n < c
 
 -- the steps are kept that were done before a run to class c was refused
-pub record HoldsRefused (L : LPresentation) (meaning : RowedPresentation → State → ℕ → State) (p c : ℕ) (keeps : List HeldStep → Type 0)
+pub record HoldsRefused (full : Bool) (L : LPresentation) (meaning : RowedPresentation → State → ℕ → State) (p c : ℕ) (keeps : List HeldStep → Type 0)
     (refusal : TowerRefusal) : Type 0 where
   pub many : ℕ
   pub answer : Answer
   pub done : IsDoneBefore c refusal many answer
-  pub holds : HoldsSteps L meaning p many keeps answer
+  pub holds : HoldsSteps full L meaning p many keeps answer

@@ -7,11 +7,11 @@ use Rattle.fp_rows.specs.Row.{PrimeRow}
 use Rattle.fp_echelon.specs.Span.{InSpan}
 use Rattle.fp_echelon.specs.Basis.{Echelon, IsBasis}
 use Rattle.pc_presentation.specs.Collection.{State}
+use Rattle.pc_presentation.specs.declared.overlap.Overlap.{Overlap}
 use Rattle.p_cover.specs.Covers.{CoverOf}
 use Rattle.derivation_log.specs.declared.source.RowSource.{RowSource}
 use Rattle.derivation_log.specs.declared.source.RowSource.TheVariants.{Test}
 use Rattle.derivation_log.specs.RowSources.{IsRowOf, AreRowsOf}
-use Rattle.consistency.specs.AllOverlaps.{all_overlaps}
 use Rattle.tower.specs.declared.relator.Relator.{Relator}
 use Rattle.tower.specs.NamedParts.{recorded_source}
 
@@ -63,6 +63,6 @@ abbrev pub HaveTakenMore : LPresentation → CoverOf → (State → ℕ → Stat
 HaveTakenMore L C push more R S =
     (sources : List RowSource) → HaveTaken L C push sources R → HaveTaken L C push (sources ++ more) S
 
--- the sources of a step: all overlaps of n generators, and the relators
-abbrev pub step_sources : ℕ → List Relator → List RowSource
-step_sources n relators = map Test (all_overlaps n) ++ map recorded_source relators
+-- the sources of a step: the overlaps that are tested, and the relators
+abbrev pub step_sources : List Overlap → List Relator → List RowSource
+step_sources tests relators = map Test tests ++ map recorded_source relators

@@ -2,7 +2,7 @@
 -- relators that it records stand for it beside the fixed ones.
 -- From: the nilpotent quotient algorithm for L-presented groups of L. Bartholdi, B. Eick and R. Hartung, in which fixed relators are
 -- enforced last.
-use Rattle.std.specs.Prelude.{◌≢◌, ◌<◌, ◌≤◌, ◌⊎◌, ℕ, List, [], ◌++◌, length, map, ⊤}
+use Rattle.std.specs.Prelude.{◌≢◌, ◌<◌, ◌≤◌, ◌⊎◌, ℕ, Bool, List, [], ◌++◌, length, map, ⊤}
 use Rattle.pq_base.specs.Limits.{max_rank}
 use Rattle.pq_base.specs.LPresentation.{LPresentation, part}
 use Rattle.pq_base.specs.LPresentation.Part.{iterated_part}
@@ -46,15 +46,15 @@ IsRefusalOfWhole L p c (TooLarge run k rank) = IsTooLargeIn L p c run k rank
 IsRefusalOfWhole L p c NoMemory = ⊤
 
 -- the steps of the run over the iterated part are kept, which make its largest quotient
-pub record HoldsPart (L : LPresentation) (meaning : RowedPresentation → State → ℕ → State) (p c : ℕ) (keeps : List HeldStep → Type 0)
-    : Type 0 where
+pub record HoldsPart (full : Bool) (L : LPresentation) (meaning : RowedPresentation → State → ℕ → State) (p c : ℕ)
+    (keeps : List HeldStep → Type 0) : Type 0 where
   pub answer : Answer
   pub largest : IsLargest (part L iterated_part) p c answer
-  pub holds : HoldsRun (part L iterated_part) meaning p c keeps answer
+  pub holds : HoldsRun full (part L iterated_part) meaning p c keeps answer
 
 -- after a refusal, the steps that were done: in the first run, with none of the second, or all of the first and some of the second
-abbrev pub HoldsTwoRefused : LPresentation → (RowedPresentation → State → ℕ → State) → ℕ → ℕ → (List HeldStep → Type 0)
+abbrev pub HoldsTwoRefused : Bool → LPresentation → (RowedPresentation → State → ℕ → State) → ℕ → ℕ → (List HeldStep → Type 0)
     → (List HeldStep → Type 0) → TowerRefusal → Type 0
-HoldsTwoRefused L meaning p c iterated whole refusal =
-    (HoldsRefused (part L iterated_part) meaning p c iterated refusal × whole [])
-    ⊎ (HoldsPart L meaning p c iterated × HoldsRefused L meaning p c whole refusal)
+HoldsTwoRefused full L meaning p c iterated whole refusal =
+    (HoldsRefused full (part L iterated_part) meaning p c iterated refusal × whole [])
+    ⊎ (HoldsPart full L meaning p c iterated × HoldsRefused full L meaning p c whole refusal)

@@ -28,7 +28,9 @@ use std::alloc::Global;
 ///
 /// With it come the relators that were recorded: iterated ones along lists of endomorphisms, which say as much as all of them up to
 /// this class. In each class the span of the overlap rows is closed under the matrices of the endomorphisms, from the rows of the
-/// iterated relators on, and each row that is new in it records a relator.
+/// iterated relators on, and each row that is new in it records a relator. Each class has all tails and tests all overlaps where the
+/// log asks for full steps, and else those alone whose weights leave room for a generator of the next class; other relators may be
+/// recorded then.
 ///
 /// The log is told of the step of each class of the run `part`, of which it holds none before. After `Ok` it holds one for each
 /// class up to the one asked for, or to the first that kept no tail; after a refusal it holds those that were done.
@@ -50,9 +52,11 @@ pub fn ascending<C: Collect + Drop, L: Log>(
     ensures refusal { IfErr result (λ e. IsRefusalOf (part_of pres.now iterated_part) (prime_value prime) class part e) }
     ensures other { KeepsTheSame (L.keeps log.old (other_run part)) (L.keeps log.new (other_run part)) }
     ensures held { L.keeps log.old part []
-        → IfOk result (λ r. HoldsRun (part_of pres.now iterated_part) C.meaning (prime_value prime) class (L.keeps log.new part) r.0) }
+        → IfOk result (λ r.
+        HoldsRun L.FULL (part_of pres.now iterated_part) C.meaning (prime_value prime) class (L.keeps log.new part) r.0) }
     ensures refused { L.keeps log.old part []
-        → IfErr result (λ e. HoldsRefused (part_of pres.now iterated_part) C.meaning (prime_value prime) class (L.keeps log.new part) e) }
+        → IfErr result (λ e.
+        HoldsRefused L.FULL (part_of pres.now iterated_part) C.meaning (prime_value prime) class (L.keeps log.new part) e) }
 {
     let mut answer = Answer::trivial(alloc, prime, pres.names())?;
     let mut recorded = Vec::new(alloc);

@@ -1,20 +1,21 @@
 //! Which iterated relators along endomorphisms suffice in a cover.
 
-ghost use Rattle.std.specs.Prelude.{◌≡◌, IfOk, map};
+ghost use Rattle.std.specs.Prelude.{◌≡◌, IfOk};
+ghost use Rattle.std.specs.List.{All};
 ghost use Rattle.pq_base.specs.LPresentation.{part};
 ghost use Rattle.pq_base.specs.LPresentation.Part.{iterated_part};
 ghost use Rattle.pq_base.specs.Answer.{class_of};
 ghost use Rattle.pc_presentation.specs.Scratch.{IsScratch};
 ghost use Rattle.pc_presentation.specs.Tailed.{rowed_presentation};
-ghost use Rattle.p_cover.specs.Covers.{cover_presentation};
+ghost use Rattle.p_cover.specs.RowedAnswer.{rowed};
+ghost use Rattle.p_cover.specs.Covers.{cover_presentation, rowed_cover};
 ghost use Rattle.p_cover.specs.Images.{AreLifted};
-ghost use Rattle.consistency.specs.AllOverlaps.{all_overlaps};
+ghost use Rattle.cover_quotient.specs.OverlapRows.{SpanOverlaps};
 ghost use Rattle.cover_quotient.specs.Stages.{IsStage};
-ghost use Rattle.derivation_log.specs.declared.source.RowSource.TheVariants.{Test};
 ghost use Rattle.endo_lift.specs.Lifts.{LeavesOutTrivial};
-ghost use Rattle.tower.specs.StepRows.{AreOver, HaveTaken};
+ghost use Rattle.tower.specs.StepRows.{AreOver};
 ghost use Rattle.tower.specs.SpunParts.{AreIterated, spun_relators};
-ghost use Rattle.tower.specs.Closing.{IsCopy, SufficeIn};
+ghost use Rattle.tower.specs.Closing.{IsCopy, IsTrivialRow, SufficeIn};
 
 use crate::lifts::{iterated_rows, lifted_endos};
 use crate::relator::Relator;
@@ -28,7 +29,8 @@ use relator_spin::{Spun, close};
 use std::alloc::Global;
 
 /// Iterated relators along endomorphisms whose rows, with those of all overlaps, span the rows of all of them: those that the
-/// closure of the overlap rows, under the matrices of the endomorphisms, names with its new rows.
+/// closure of the overlap rows, under the matrices of the endomorphisms, names with its new rows. The rows that are given are trivial
+/// in the cover and span those of all overlaps.
 pub(crate) fn closing_relators<C: Collect>(
     alloc: Global,
     s: &mut Scratch<C>,
@@ -42,8 +44,9 @@ pub(crate) fn closing_relators<C: Collect>(
     requires stage { let A = cover.now.answer in IsStage (part pres.now iterated_part) A.presentation.prime (class_of A) A }
     requires left_out { LeavesOutTrivial cover.now }
     requires over { AreOver cover.now rows.now }
-    requires taken { HaveTaken pres.now cover.now (C.meaning (rowed_presentation (cover_presentation cover.now)))
-        (map Test (all_overlaps cover.now.answer.presentation.rank)) rows.now }
+    requires overlaps { SpanOverlaps (rowed (rowed_cover cover.now)) (C.meaning (rowed_presentation (cover_presentation cover.now)))
+        rows.now.basis.added }
+    requires trivial { All (IsTrivialRow cover.now) rows.now.basis.added }
     ensures scratch { IsScratch (cover_presentation cover.now) s.new }
     ensures iterated { IfOk result (λ relators. AreIterated pres.now relators.items) }
     ensures suffice { IfOk result (λ relators.

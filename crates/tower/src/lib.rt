@@ -1,12 +1,14 @@
 //! The tower: the largest quotients of a presented group, class after class. The rows of one class, of its overlaps and of relators
 //! by number, are found and inserted one after the other. Where iterated relators are carried along endomorphisms, few of them are
-//! recorded in each class, which say as much as all.
+//! recorded in each class, which say as much as all. A log says whether each class has all tails and tests all overlaps, or those
+//! alone whose weights leave room for a generator of the next class; the quotients meet the same clauses.
 #![tactic(auto)]
 
 pub mod ascent;
 mod classes;
 mod closing;
 mod finding;
+mod kinds;
 pub mod laws;
 mod lifts;
 mod overlaps;

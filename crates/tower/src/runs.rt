@@ -1,15 +1,13 @@
-//! Towers of few relators: class after class over full covers.
+//! Towers of few relators: class after class.
 
-ghost use Rattle.std.specs.Prelude.{◌≡◌, ◌<◌, ◌≤◌, List, [], length, IfOk, IfErr, OnErr};
+ghost use Rattle.std.specs.Prelude.{◌≡◌, ◌≤◌, List, [], IfOk, IfErr};
 ghost use Rattle.std.specs.List.{All};
 ghost use Rattle.pq_base.specs.Limits.{max_class};
 ghost use Rattle.pq_base.specs.Prime.{prime_value};
 ghost use Rattle.derivation_log.specs.declared.source.Run.TheVariants.{Iterated, Whole};
 ghost use Rattle.derivation_log.specs.HeldSteps.{HeldStep, KeepsTheSame};
-ghost use Rattle.cover_quotient.specs.Stages.{full_cover_of};
 ghost use Rattle.tower.specs.NamedParts.{IsNamed, named_part};
-ghost use Rattle.tower.specs.Answers.{IsStepFrom, IsGrown, IsQuotient};
-ghost use Rattle.tower.specs.LoggedSteps.{IsLogged};
+ghost use Rattle.tower.specs.Answers.{IsQuotient};
 ghost use Rattle.tower.specs.LoggedRuns.{HoldsRun, HoldsRefused};
 ghost use Rattle.tower.specs.Refusals.{IsRefusalOf};
 
@@ -19,14 +17,16 @@ use crate::relator::Relator;
 use class_step::Step;
 use derivation_log::{Log, Run};
 use lpres_reader::LPres;
-use p_cover::full_cover;
 use pc_presentation::{Answer, Collect};
-use pq_base::{NoMemory, Prime};
+use pq_base::Prime;
 use std::alloc::Global;
 
 /// The largest quotient of the group of the relators named, of p-class at most so much, in its canonical form. A relator is a fixed
 /// one, or an iterated one along a list of endomorphisms. `TooLarge` comes at the first class whose largest quotient has a rank
 /// above 100, and only there.
+///
+/// Each class has all tails and tests all overlaps where the log asks for full steps, and else those alone whose weights leave room for
+/// a generator of the next class.
 ///
 /// The log is told of the step of each class of the run `Whole`, of which it holds none before. After `Ok` it holds one for each
 /// class up to the one asked for, or to the first that kept no tail; after a refusal it holds those that were done.
@@ -46,14 +46,14 @@ pub fn finite<C: Collect + Drop, L: Log>(
     ensures refusal { IfErr result (λ e. IsRefusalOf (named_part pres.now relators.now) (prime_value prime) class Whole e) }
     ensures other { KeepsTheSame (L.keeps log.old Iterated) (L.keeps log.new Iterated) }
     ensures held { L.keeps log.old Whole []
-        → IfOk result (λ a. HoldsRun pres.now C.meaning (prime_value prime) class (L.keeps log.new Whole) a) }
+        → IfOk result (λ a. HoldsRun L.FULL pres.now C.meaning (prime_value prime) class (L.keeps log.new Whole) a) }
     ensures refused { L.keeps log.old Whole []
-        → IfErr result (λ e. HoldsRefused pres.now C.meaning (prime_value prime) class (L.keeps log.new Whole) e) }
+        → IfErr result (λ e. HoldsRefused L.FULL pres.now C.meaning (prime_value prime) class (L.keeps log.new Whole) e) }
 {
     let mut answer = Answer::trivial(alloc, prime, pres.names())?;
     for k in 0..class {
         let _rank = answer.pcp().rank();
-        match full_class::<C, L>(alloc, pres, relators, prime, k, &answer, log)? {
+        match one_class::<C, L>(alloc, pres, relators, prime, k, &answer, log)? {
             Step::Next(next) => answer = next,
             Step::Same => return Ok(answer),
             Step::TooLarge { rank } => {
@@ -67,30 +67,4 @@ pub fn finite<C: Collect + Drop, L: Log>(
     }
     let _rank = answer.pcp().rank();
     Ok(answer)
-}
-
-/// What the answer of class k leads to, by its full cover.
-fn full_class<C: Collect + Drop, L: Log>(
-    alloc: Global,
-    pres: &LPres,
-    relators: &[Relator],
-    prime: Prime,
-    k: u8,
-    answer: &Answer,
-    log: &mut L,
-) -> Result<Step, NoMemory>
-    requires named { All (IsNamed pres.now) relators.now }
-    requires grown { IsGrown (named_part pres.now relators.now) (prime_value prime) k answer.now }
-    requires class { k < max_class }
-    requires log { (steps : List HeldStep) → L.keeps log.old Whole steps → length steps ≡ k }
-    ensures step { IfOk result (λ step. IsStepFrom (named_part pres.now relators.now) (prime_value prime) k answer.now step) }
-    ensures logged { IfOk result (λ step. IsLogged pres.now C.meaning (full_cover_of answer.now)
-        (L.keeps log.old Whole) (L.keeps log.new Whole) step) }
-    ensures other { KeepsTheSame (L.keeps log.old Iterated) (L.keeps log.new Iterated) }
-    ensures refused { OnErr result (KeepsTheSame (L.keeps log.old Whole) (L.keeps log.new Whole)) }
-{
-    let _from = (prime, k);
-    let cover = full_cover(alloc, answer)?;
-    let _pcp = cover.pcp();
-    one_class::<C, L>(alloc, pres, relators, &cover, Run::Whole, log)
 }

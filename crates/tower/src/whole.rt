@@ -25,8 +25,8 @@ use std::alloc::Global;
 
 /// The largest quotient of a presentation, of p-class at most so much, in its canonical form. Where there are fixed relators and
 /// endomorphisms, the iterated part is computed first, as the run `Iterated`; the relators that it records and the fixed ones are
-/// the run `Whole`. `TooLarge` comes at the first class whose largest quotient has a rank above 100, in the run that it names, and
-/// what the log holds is as in `finite`, for each of the runs.
+/// the run `Whole`. `TooLarge` comes at the first class whose largest quotient has a rank above 100, in the run that it names. Which
+/// tails and overlaps a class has, and what the log holds, is as in `finite`, for each of the runs.
 pub fn largest<C: Collect + Drop, L: Log>(
     alloc: Global,
     pres: &LPres,
@@ -43,13 +43,13 @@ pub fn largest<C: Collect + Drop, L: Log>(
     ensures refusal { IfErr result (λ e. IsRefusalOfWhole pres.now (prime_value prime) class e) }
     ensures other { ¬ TakesTwoRuns pres.now → KeepsTheSame (L.keeps log.old Iterated) (L.keeps log.new Iterated) }
     ensures held { L.keeps log.old Whole []
-        → IfOk result (λ a. HoldsRun pres.now C.meaning (prime_value prime) class (L.keeps log.new Whole) a) }
+        → IfOk result (λ a. HoldsRun L.FULL pres.now C.meaning (prime_value prime) class (L.keeps log.new Whole) a) }
     ensures held_part { TakesTwoRuns pres.now → L.keeps log.old Iterated []
-        → IfOk result (λ a. HoldsPart pres.now C.meaning (prime_value prime) class (L.keeps log.new Iterated)) }
+        → IfOk result (λ a. HoldsPart L.FULL pres.now C.meaning (prime_value prime) class (L.keeps log.new Iterated)) }
     ensures refused { ¬ TakesTwoRuns pres.now → L.keeps log.old Whole []
-        → IfErr result (λ e. HoldsRefused pres.now C.meaning (prime_value prime) class (L.keeps log.new Whole) e) }
+        → IfErr result (λ e. HoldsRefused L.FULL pres.now C.meaning (prime_value prime) class (L.keeps log.new Whole) e) }
     ensures refused_part { TakesTwoRuns pres.now → L.keeps log.old Iterated [] → L.keeps log.old Whole []
-        → IfErr result (λ e. HoldsTwoRefused pres.now C.meaning (prime_value prime) class
+        → IfErr result (λ e. HoldsTwoRefused L.FULL pres.now C.meaning (prime_value prime) class
         (L.keeps log.new Iterated) (L.keeps log.new Whole) e) }
 {
     if has_no_endos(pres) {
@@ -91,9 +91,9 @@ fn without_endos<C: Collect + Drop, L: Log>(
     ensures refusal { IfErr result (λ e. IsRefusalOf pres.now (prime_value prime) class Whole e) }
     ensures other { KeepsTheSame (L.keeps log.old Iterated) (L.keeps log.new Iterated) }
     ensures held { L.keeps log.old Whole []
-        → IfOk result (λ a. HoldsRun pres.now C.meaning (prime_value prime) class (L.keeps log.new Whole) a) }
+        → IfOk result (λ a. HoldsRun L.FULL pres.now C.meaning (prime_value prime) class (L.keeps log.new Whole) a) }
     ensures refused { L.keeps log.old Whole []
-        → IfErr result (λ e. HoldsRefused pres.now C.meaning (prime_value prime) class (L.keeps log.new Whole) e) }
+        → IfErr result (λ e. HoldsRefused L.FULL pres.now C.meaning (prime_value prime) class (L.keeps log.new Whole) e) }
 {
     let relators = all_relators(alloc, pres)?;
     finite::<C, L>(alloc, pres, relators.as_slice(), prime, class, log)
@@ -115,9 +115,9 @@ fn without_fixed<C: Collect + Drop, L: Log>(
     ensures refusal { IfErr result (λ e. IsRefusalOf pres.now (prime_value prime) class Whole e) }
     ensures other { KeepsTheSame (L.keeps log.old Iterated) (L.keeps log.new Iterated) }
     ensures held { L.keeps log.old Whole []
-        → IfOk result (λ a. HoldsRun pres.now C.meaning (prime_value prime) class (L.keeps log.new Whole) a) }
+        → IfOk result (λ a. HoldsRun L.FULL pres.now C.meaning (prime_value prime) class (L.keeps log.new Whole) a) }
     ensures refused { L.keeps log.old Whole []
-        → IfErr result (λ e. HoldsRefused pres.now C.meaning (prime_value prime) class (L.keeps log.new Whole) e) }
+        → IfErr result (λ e. HoldsRefused L.FULL pres.now C.meaning (prime_value prime) class (L.keeps log.new Whole) e) }
 {
     let (answer, _recorded) = ascending::<C, L>(alloc, pres, Run::Whole, prime, class, log)?;
     Ok(answer)
@@ -140,11 +140,11 @@ fn in_two_runs<C: Collect + Drop, L: Log>(
     ensures small { IfOk result (λ a. HasSmallPart pres.now (prime_value prime) class) }
     ensures refusal { IfErr result (λ e. IsRefusalOfWhole pres.now (prime_value prime) class e) }
     ensures held { L.keeps log.old Whole []
-        → IfOk result (λ a. HoldsRun pres.now C.meaning (prime_value prime) class (L.keeps log.new Whole) a) }
+        → IfOk result (λ a. HoldsRun L.FULL pres.now C.meaning (prime_value prime) class (L.keeps log.new Whole) a) }
     ensures held_part { L.keeps log.old Iterated []
-        → IfOk result (λ a. HoldsPart pres.now C.meaning (prime_value prime) class (L.keeps log.new Iterated)) }
+        → IfOk result (λ a. HoldsPart L.FULL pres.now C.meaning (prime_value prime) class (L.keeps log.new Iterated)) }
     ensures refused_part { L.keeps log.old Iterated [] → L.keeps log.old Whole []
-        → IfErr result (λ e. HoldsTwoRefused pres.now C.meaning (prime_value prime) class
+        → IfErr result (λ e. HoldsTwoRefused L.FULL pres.now C.meaning (prime_value prime) class
         (L.keeps log.new Iterated) (L.keeps log.new Whole) e) }
 {
     let (_answer, recorded) = ascending::<C, L>(alloc, pres, Run::Iterated, prime, class, log)?;
@@ -175,9 +175,9 @@ pub fn with_fixed<C: Collect + Drop, L: Log>(
         → IfErr result (λ e. IsRefusalOf pres.now (prime_value prime) class Whole e) }
     ensures other { KeepsTheSame (L.keeps log.old Iterated) (L.keeps log.new Iterated) }
     ensures held { L.keeps log.old Whole []
-        → IfOk result (λ a. HoldsRun pres.now C.meaning (prime_value prime) class (L.keeps log.new Whole) a) }
+        → IfOk result (λ a. HoldsRun L.FULL pres.now C.meaning (prime_value prime) class (L.keeps log.new Whole) a) }
     ensures refused { L.keeps log.old Whole []
-        → IfErr result (λ e. HoldsRefused pres.now C.meaning (prime_value prime) class (L.keeps log.new Whole) e) }
+        → IfErr result (λ e. HoldsRefused L.FULL pres.now C.meaning (prime_value prime) class (L.keeps log.new Whole) e) }
 {
     let relators = and_fixed(alloc, pres, recorded)?;
     finite::<C, L>(alloc, pres, relators.as_slice(), prime, class, log)

@@ -31,7 +31,7 @@ close-requires-clause-rows g c =
     subst (AreOver K.prime K.width) (sym c.deref.ensures.value)
     (closing-rows c.args.pres.now c.names-names.ensures.presentation (class_of C.answer) C c.pcp-pcp.ensures.cover push
     (cover-meaning g.C.Collect.meaning g.met.C.Collect.reaches C c.pcp-pcp.ensures.cover) c.requires.stage c.in_ok-matrices.matrices.items
-    c.in_ok-matrices.ensures.lifts c.in_ok-given.given.items c.in_ok-given.ensures.rows c.args.rows.now c.requires.over c.requires.taken
+    c.in_ok-matrices.ensures.lifts c.in_ok-given.given.items c.in_ok-given.ensures.rows c.args.rows.now c.requires.over c.requires.overlaps c.requires.trivial
     c.rows.inside.basis K (ap (λ (R : StepRows). R.basis) c.rows.view_is) c.in_ok-overlaps.ensures)
 
 pub close-requires-clause-matrices : goal.close-requires-clause-matrices
@@ -42,7 +42,7 @@ close-requires-clause-matrices g c =
     subst (AreMatricesOver K.prime K.width) (sym c.deref-2.ensures.value)
     (closing-matrices c.args.pres.now c.names-names.ensures.presentation (class_of C.answer) C c.pcp-pcp.ensures.cover push
     (cover-meaning g.C.Collect.meaning g.met.C.Collect.reaches C c.pcp-pcp.ensures.cover) c.requires.stage c.in_ok-matrices.matrices.items
-    c.in_ok-matrices.ensures.lifts c.in_ok-given.given.items c.in_ok-given.ensures.rows c.args.rows.now c.requires.over c.requires.taken
+    c.in_ok-matrices.ensures.lifts c.in_ok-given.given.items c.in_ok-given.ensures.rows c.args.rows.now c.requires.over c.requires.overlaps c.requires.trivial
     c.rows.inside.basis K (ap (λ (R : StepRows). R.basis) c.rows.view_is) c.in_ok-overlaps.ensures)
 
 pub close-requires-clause-closed : goal.close-requires-clause-closed
@@ -53,7 +53,7 @@ close-requires-clause-closed g c =
     subst (λ (ms : List PrimeMatrix). IsClosed K.prime K.width ms K.added) (sym c.deref-2.ensures.value)
     (closing-closed c.args.pres.now c.names-names.ensures.presentation (class_of C.answer) C c.pcp-pcp.ensures.cover push
     (cover-meaning g.C.Collect.meaning g.met.C.Collect.reaches C c.pcp-pcp.ensures.cover) c.requires.stage c.in_ok-matrices.matrices.items
-    c.in_ok-matrices.ensures.lifts c.in_ok-given.given.items c.in_ok-given.ensures.rows c.args.rows.now c.requires.over c.requires.taken
+    c.in_ok-matrices.ensures.lifts c.in_ok-given.given.items c.in_ok-given.ensures.rows c.args.rows.now c.requires.over c.requires.overlaps c.requires.trivial
     c.rows.inside.basis K (ap (λ (R : StepRows). R.basis) c.rows.view_is) c.in_ok-overlaps.ensures)
 
 pub returns-clause-iterated : goal.returns-clause-iterated
@@ -71,7 +71,7 @@ returns-clause-iterated g c =
     (λ rs are.
     closing-iterated c.args.pres.now c.names-names.ensures.presentation (class_of C.answer) C c.pcp-pcp.ensures.cover push
     (cover-meaning g.C.Collect.meaning g.met.C.Collect.reaches C c.pcp-pcp.ensures.cover) c.requires.stage ms c.in_ok-matrices.ensures.lifts xs
-    c.in_ok-given.ensures.rows c.args.rows.now c.requires.over c.requires.taken c.rows.inside.basis K
+    c.in_ok-given.ensures.rows c.args.rows.now c.requires.over c.requires.overlaps c.requires.trivial c.rows.inside.basis K
     (ap (λ (R : StepRows). R.basis) c.rows.view_is) c.in_ok-overlaps.ensures c.in_ok-_basis._basis.added names closed rs.items are) c.relators_of.ensures
 
 pub returns-clause-suffice : goal.returns-clause-suffice
@@ -89,5 +89,5 @@ returns-clause-suffice g c =
     (λ rs are.
     closing-suffice c.args.pres.now c.names-names.ensures.presentation (class_of C.answer) C c.pcp-pcp.ensures.cover push
     (cover-meaning g.C.Collect.meaning g.met.C.Collect.reaches C c.pcp-pcp.ensures.cover) c.requires.stage ms c.in_ok-matrices.ensures.lifts xs
-    c.in_ok-given.ensures.rows c.args.rows.now c.requires.over c.requires.taken c.rows.inside.basis K
+    c.in_ok-given.ensures.rows c.args.rows.now c.requires.over c.requires.overlaps c.requires.trivial c.rows.inside.basis K
     (ap (λ (R : StepRows). R.basis) c.rows.view_is) c.in_ok-overlaps.ensures c.in_ok-_basis._basis.added names closed rs.items are) c.relators_of.ensures

@@ -16,7 +16,7 @@ use Rattle.tower.proofs.whole.with_fixed.Goals as goal
 pub returns-in_err-relators-clause-refused : goal.returns-in_err-relators-clause-refused
 returns-in_err-relators-clause-refused g c kept =
     let p = err_from_is_err_and c.from_residual.result c.from_residual.ensures.1 in
-    rw (p.1, p.2) (holds-wanting_first c.args.pres.now g.C.Collect.meaning (prime_value c.args.prime)
+    rw (p.1, p.2) (holds-wanting_first g.L.Log.FULL c.args.pres.now g.C.Collect.meaning (prime_value c.args.prime)
     (g.L.Log.keeps c.args.log.now Whole) c.args.class kept c.requires.from_one)
 
 pub finite-requires-clause-named : goal.finite-requires-clause-named

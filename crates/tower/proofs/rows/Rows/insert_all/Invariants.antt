@@ -6,7 +6,7 @@ use Rattle.p_cover.specs.Covers.{cover_presentation}
 use Rattle.consistency.specs.AllOverlaps.{all_overlaps}
 use Rattle.derivation_log.specs.declared.source.RowSource.TheVariants.{Test}
 use Rattle.tower.specs.StepRows.{AreOver, HaveTakenMore}
-use Rattle.tower.proofs.rows.Rows.insert_overlaps.Given as goal
+use Rattle.tower.proofs.rows.Rows.insert_all.Given as goal
 
 -- the rows of the overlaps so far were taken
 abbrev pub invariant-loop-test : goal.invariant-loop-test

@@ -1,0 +1,4 @@
+pub mod Samples
+pub mod Summary
+pub mod SampleLaws
+pub mod Pieces

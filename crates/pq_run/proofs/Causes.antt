@@ -1,6 +1,6 @@
 -- What a text is refused for, the input that gave it is refused for; and what the input of `quotient P C` is refused for, the command
 -- is refused for.
-use Rattle.std.proofs.Common.{◌≡◌, ℕ, List, Option, Some, None, IfSome, Result, IfErr, [], sym, subst}
+use Rattle.std.proofs.Common.{◌≡◌, ℕ, List, Option, Some, None, IfSome, Result, IfErr, [], inl, sym, subst}
 use Rattle.std.proofs.lemmas.Option.{IfSome_then}
 use Rattle.std.proofs.lemmas.Result.{IfErr-weaker}
 use Rattle.pq_base.specs.declared.prime.Prime.{Prime}
@@ -99,7 +99,7 @@ module _ (words : List (List ℕ)) (p : Prime) (c : ℕ) (form : Form) (spelled 
     subst (λ (x : Input). IfSome r.left (IsAbove x)) (sym cause.0) cause.1,
   )
   input_cause r (Text fault) cause = (asks_presentation, cause)
-  input_cause r (TooLarge part k rank) cause = (
+  input_cause r (TooLarge part k rank) cause = inl (
     asks_presentation,
     IfSome_then r.left {P = λ bytes. IsWithin Presentation bytes × IsTextCause (prime_value p) c bytes (TooLarge part k rank)}
         {Q = λ bytes. Asks (IsTooLargeFor part k rank bytes) words} cause (asks_too_large part k rank),

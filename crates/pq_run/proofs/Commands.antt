@@ -1,16 +1,18 @@
 -- One list of words spells at most one command, so what kind of command words ask for is one thing.
-use Rattle.std.proofs.Common.{◌≡◌, ◌<◌, ◌≤◌, ◌^◌, ℕ, List, [], get_or, length, ◌+◌, ◌*◌, refl, sym, ap, ◌∙◌, subst, decimal, Some, arith}
+use Rattle.std.proofs.Common.{◌≡◌, ◌<◌, ◌≤◌, ◌^◌, ℕ, List, [], get_or, length, ◌+◌, ◌*◌, refl, sym, ap, ◌∙◌, subst, decimal, Some, None, arith}
 use Rattle.std.proofs.lemmas.Fmt.{decimal_injective}
 use Rattle.pq_base.specs.declared.prime.Prime.{Prime}
 use Rattle.pq_base.specs.declared.prime.Prime.TheVariants.{P2, P3, P5, P7}
 use Rattle.pq_base.specs.Prime.{prime_value}
+use Rattle.derivation_log.specs.declared.source.Run.{Run}
 use Rattle.pq_run.specs.declared.command.Command.{Command}
 use Rattle.pq_run.specs.declared.command.Command.TheVariants.{Quotient, Json, Certify, Check, Sample}
 use Rattle.pq_run.specs.declared.input.Input.{Input}
 use Rattle.pq_run.specs.declared.input.Input.TheVariants.{Presentation}
-use Rattle.pq_run.specs.Command.{command_words, CommandWords, AreCommandWords, IsInRange, Asks, AtPrimeAndClass}
+use Rattle.pq_run.specs.Command.{command_words, CommandWords, AreCommandWords, IsInRange, Asks, AtPrimeAndClass, AtSample}
 use Rattle.pq_run.specs.Input.{IsAbove}
-use Rattle.pq_run.specs.Built.{IsBuilt, IsUnbuilt, ReadsInput, IsTooLong, IsGiven}
+use Rattle.pq_run.specs.SampleRanks.{HasLargeSampleRank}
+use Rattle.pq_run.specs.Built.{IsBuilt, IsUnbuilt, ReadsInput, IsReading, IsTooLong, IsGiven, IsLargeSampleFor}
 
 -- word number i, counted from 0
 abbrev word : ℕ → List (List ℕ) → List ℕ
@@ -96,6 +98,10 @@ Asks-weaker K M words gives a = (a.0, a.1, gives a.0 a.2)
 pub Asks-built : (input : Input) (words : List (List ℕ)) → Asks (ReadsInput input) words → Asks IsBuilt words
 Asks-built input words a = Asks-weaker (ReadsInput input) IsBuilt words (λ c k. k.0) a
 
+-- words that spell a command, which is told by its parts
+pub spelled-same : (words : List (List ℕ)) (c d : Command) → CommandWords words d → d ≡ c → CommandWords words c
+spelled-same words c d spelled same = subst (CommandWords words) same spelled
+
 -- words that spell a command of this kind, which is told by its parts
 pub Asks-same : (K : Command → Type 0) (words : List (List ℕ)) (c d : Command) → CommandWords words d → d ≡ c → K c → Asks K words
 Asks-same K words c d spelled same is = (c, subst (CommandWords words) same spelled, is)
@@ -109,7 +115,7 @@ unbuilt-not_built (Quotient p c) u b = u
 unbuilt-not_built (Json p c) u b = u
 unbuilt-not_built (Certify p c) u b = b
 unbuilt-not_built Check u b = b
-unbuilt-not_built (Sample n) u b = b
+unbuilt-not_built (Sample n) u b = u
 
 -- what follows from what holds of the prime and the class of a command
 pub AtPrimeAndClass-gives : (P : ℕ → ℕ → Type 0) (X : Type 0) → ((p c : ℕ) → P p c → X) → (command : Command) → AtPrimeAndClass P command → X
@@ -127,6 +133,45 @@ AtPrimeAndClass-both P Q X gives (Json p c) one other = gives p c one other
 AtPrimeAndClass-both P Q X gives (Certify p c) one other = gives p c one other
 AtPrimeAndClass-both P Q X gives Check one other = absurd one
 AtPrimeAndClass-both P Q X gives (Sample n) one other = absurd one
+
+-- what follows from two facts of the number of a sample
+pub AtSample-both : (P Q : ℕ → Type 0) (X : Type 0) → ((n : ℕ) → P n → Q n → X) → (command : Command) → AtSample P command → AtSample Q command → X
+AtSample-both P Q X gives (Quotient p c) one other = absurd one
+AtSample-both P Q X gives (Json p c) one other = absurd one
+AtSample-both P Q X gives (Certify p c) one other = absurd one
+AtSample-both P Q X gives Check one other = absurd one
+AtSample-both P Q X gives (Sample n) one other = gives n one other
+
+-- what follows of it from one
+pub AtSample-weaker : (P Q : ℕ → Type 0) → ((n : ℕ) → P n → Q n) → (command : Command) → AtSample P command → AtSample Q command
+AtSample-weaker P Q gives (Quotient p c) holds = holds
+AtSample-weaker P Q gives (Json p c) holds = holds
+AtSample-weaker P Q gives (Certify p c) holds = holds
+AtSample-weaker P Q gives Check holds = holds
+AtSample-weaker P Q gives (Sample n) holds = gives n holds
+
+-- a command for a sample is built
+pub AtSample-built : (P : ℕ → Type 0) (command : Command) → AtSample P command → IsBuilt command
+AtSample-built P (Quotient p c) holds = absurd holds
+AtSample-built P (Json p c) holds = absurd holds
+AtSample-built P (Certify p c) holds = absurd holds
+AtSample-built P Check holds = absurd holds
+AtSample-built P (Sample n) holds = tt
+
+pub Asks-large-built : (part : Run) (k r : ℕ) (words : List (List ℕ)) → Asks (IsLargeSampleFor part k r) words → Asks IsBuilt words
+Asks-large-built part k r words a =
+    Asks-weaker (IsLargeSampleFor part k r) IsBuilt words (λ c l. AtSample-built (HasLargeSampleRank k r) c l.1) a
+
+-- a command for a sample reads nothing
+pub reading-not_sample : (P : ℕ → Type 0) (command : Command) → IsReading command → AtSample P command → ⊥
+reading-not_sample P (Quotient p c) reads holds = holds
+reading-not_sample P (Json p c) reads holds = holds
+reading-not_sample P (Certify p c) reads holds = holds
+reading-not_sample P Check reads holds = holds
+reading-not_sample P (Sample n) reads holds = none reads.0 reads.1.1
+  where
+    none : (input : Input) → None ≡ Some input → ⊥
+    none input e = cc
 
 -- the length of an input is within its limit or not
 pub too_long-not_given : (bytes : List ℕ) (c : Command) → IsTooLong bytes c → IsGiven bytes c → ⊥

@@ -12,13 +12,14 @@ use Rattle.pq_run.specs.declared.refusal.Refusal.TheVariants.{Words, UnbuiltComm
 use Rattle.pq_run.specs.Command.{Asks}
 use Rattle.pq_run.specs.Input.{IsAbove, IsWithin}
 use Rattle.pq_run.specs.Texts.{IsReadable, HasLargeRank, HasSmallRanks, HasFault}
-use Rattle.pq_run.specs.Built.{IsBuilt, IsUnbuilt, IsTooLong, IsGiven, IsBadText, IsTooLargeFor, IsTooLarge, IsAnswered}
+use Rattle.pq_run.specs.SampleRanks.{HasLargeSampleRank}
+use Rattle.pq_run.specs.Built.{IsUnbuilt, IsReading, IsTooLong, IsGiven, IsBadText, IsTooLargeFor, IsTooLarge, IsAnswered, IsLargeSampleFor}
 use Rattle.pq_run.specs.Refusals.{refusal_status}
 use Rattle.pq_run.specs.Streams.{Reading, Writing}
 use Rattle.pq_run.specs.Cause.{IsCause}
 use Rattle.pq_run.specs.Ends.{Ends, IsDecided}
 use Rattle.pq_run.specs.Ends.Ends.{done, cut, refused}
-use Rattle.pq_run.proofs.Commands.{Asks-words, Asks-weaker, Asks-apart, AtPrimeAndClass-gives, AtPrimeAndClass-both, unbuilt-not_built, too_long-not_given}
+use Rattle.pq_run.proofs.Commands.{Asks-words, Asks-weaker, Asks-apart, AtPrimeAndClass-gives, AtPrimeAndClass-both, unbuilt-not_built, reading-not_sample, too_long-not_given}
 use Rattle.pq_run.proofs.Texts.{HasFault-unreadable, HasLargeRank-HasSmallRanks}
 
 -- what an input is given for
@@ -49,22 +50,24 @@ module _ (words : List (List ℕ)) (bytes : List ℕ) (r : Reading) (w : Writing
   here : (P : List ℕ → Type 0) → IfSome r.left P → P bytes
   here P holds = subst (λ (left : Option (List ℕ)). IfSome left P) is_left holds
 
-  refused_end : (refusal : Refusal) → Asks IsBuilt words → IsCause words r refusal → end ≡ refusal_status refusal → InputEnd words bytes r w end
-  refused_end Words ask cause is = absurd (cause (Asks-words IsBuilt words ask))
-  refused_end UnbuiltCommand ask cause is = absurd (Asks-apart IsUnbuilt IsBuilt words unbuilt-not_built cause ask)
+  refused_end : (refusal : Refusal) → Asks IsReading words → IsCause words r refusal → end ≡ refusal_status refusal → InputEnd words bytes r w end
+  refused_end Words ask cause is = absurd (cause (Asks-words IsReading words ask))
+  refused_end UnbuiltCommand ask cause is = absurd (Asks-apart IsUnbuilt IsReading words (λ c u k. unbuilt-not_built c u k.1.0) cause ask)
   refused_end ReadFault ask cause is = unread is cause.1
   refused_end (InputTooLong input) ask cause is = long is (cause.0.0, cause.0.1, (input, cause.0.2, here (IsAbove input) cause.1))
   refused_end (Text fault) ask cause is =
       let has = here (λ b. IsWithin Presentation b × HasFault fault b) cause.1 in
       faulty is (cause.0.0, cause.0.1, ((cause.0.2, has.0), HasFault-unreadable bytes fault has.1))
-  refused_end (TooLarge run k rank) ask cause is =
-      let has = here (λ b. Asks (IsTooLargeFor run k rank b) words) cause.1 in
+  refused_end (TooLarge run k rank) ask (inl of_input) is =
+      let has = here (λ b. Asks (IsTooLargeFor run k rank b) words) of_input.1 in
       large is (has.0, has.1, (run, k, rank, has.2))
+  refused_end (TooLarge run k rank) ask (inr of_sample) is =
+      absurd (Asks-apart IsReading (IsLargeSampleFor run k rank) words (λ c reads l. reading-not_sample (HasLargeSampleRank k rank) c reads l.1) ask of_sample)
   refused_end NoMemory ask cause is = wanting is
 
-  input_end : Ends words r w end → Asks IsBuilt words → InputEnd words bytes r w end
-  input_end (done is came by) ask = whole is (here (λ b. Asks (IsAnswered b) words) came.answered)
-  input_end (cut is came by) ask = part is (here (λ b. Asks (IsAnswered b) words) came.answered) by.fault
+  input_end : Ends words r w end → Asks IsReading words → InputEnd words bytes r w end
+  input_end (done is came by) ask = whole is (here (λ b. Asks (IsAnswered b) words) (came.answered ask))
+  input_end (cut is came by) ask = part is (here (λ b. Asks (IsAnswered b) words) (came.answered ask)) by.fault
   input_end (refused by) ask = refused_end by.refusal ask by.cause by.is
 
   apart : (K : Command → Type 0) → ((c : Command) → K c → IsGiven bytes c) → Asks (IsTooLong bytes) words → Asks K words → ⊥
@@ -134,21 +137,21 @@ module _ (words : List (List ℕ)) (r : Reading) (w : Writing) (end : Status) (e
   pub too_long-ends : IfSome r.left (λ bytes. Asks (IsTooLong bytes) words → IsDecided status.InputTooLong end)
   too_long-ends = told r.left (λ bytes. Asks (IsTooLong bytes) words → IsDecided status.InputTooLong end)
       (λ bytes is_left h. long_end words bytes r w end is_left
-      (input_end words bytes r w end is_left ends (Asks-weaker (IsTooLong bytes) IsBuilt words (λ c k. k.1.0) h)) h)
+      (input_end words bytes r w end is_left ends (Asks-weaker (IsTooLong bytes) IsReading words (λ c k. (k.0, k.1)) h)) h)
 
   pub bad_text-ends : IfSome r.left (λ bytes. Asks (IsBadText bytes) words → IsDecided status.BadText end)
   bad_text-ends = told r.left (λ bytes. Asks (IsBadText bytes) words → IsDecided status.BadText end)
       (λ bytes is_left h. bad_end words bytes r w end is_left
-      (input_end words bytes r w end is_left ends (Asks-weaker (IsBadText bytes) IsBuilt words (λ c k. k.0.0.0) h)) h)
+      (input_end words bytes r w end is_left ends (Asks-weaker (IsBadText bytes) IsReading words (λ c k. (Presentation, k.0.0)) h)) h)
 
   pub too_large-ends : IfSome r.left (λ bytes. Asks (IsTooLarge bytes) words → IsDecided status.TooLarge end)
   too_large-ends = told r.left (λ bytes. Asks (IsTooLarge bytes) words → IsDecided status.TooLarge end)
       (λ bytes is_left h. large_end words bytes r w end is_left
-      (input_end words bytes r w end is_left ends (Asks-weaker (IsTooLarge bytes) IsBuilt words (λ c k. k.3.0.0.0) h)) h)
+      (input_end words bytes r w end is_left ends (Asks-weaker (IsTooLarge bytes) IsReading words (λ c k. (Presentation, k.3.0.0)) h)) h)
 
   pub complete-ends : IfSome r.left
       (λ bytes. Asks (IsAnswered bytes) words → ¬ Rose r.before r.after → ¬ Rose w.before w.after → (end ≡ status.Done) ⊎ (end ≡ status.NoMemory))
   complete-ends = told r.left
       (λ bytes. Asks (IsAnswered bytes) words → ¬ Rose r.before r.after → ¬ Rose w.before w.after → (end ≡ status.Done) ⊎ (end ≡ status.NoMemory))
       (λ bytes is_left h. answered_end words bytes r w end is_left
-      (input_end words bytes r w end is_left ends (Asks-weaker (IsAnswered bytes) IsBuilt words (λ c k. k.0.0.0) h)) h)
+      (input_end words bytes r w end is_left ends (Asks-weaker (IsAnswered bytes) IsReading words (λ c k. (Presentation, k.0.0)) h)) h)

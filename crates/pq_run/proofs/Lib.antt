@@ -3,11 +3,14 @@ pub mod Commands
 pub mod QuotientCommands
 pub mod Texts
 pub mod Outputs
+pub mod OneOutputs
 pub mod Headlines
 pub mod WordsEnds
 pub mod InputEnds
 pub mod TooLargeRanks
 pub mod RefusalEnds
 pub mod OutputEnds
+pub mod SampleOutputs
+pub mod SampleEnds
 pub mod Causes
 pub mod TooLongLines

@@ -15,10 +15,11 @@ use Rattle.pq_run.specs.Input.{input_of, read_of, IsReadToEnd, IsWithin}
 use Rattle.pq_run.specs.Form.{quotient_command, written_as}
 use Rattle.pq_run.specs.Texts.{HasSmallRanks}
 use Rattle.pq_run.specs.Output.{WritesAnswer}
-use Rattle.pq_run.specs.Built.{IsAnswered}
+use Rattle.pq_run.specs.Built.{IsReading, IsAnswered, IsSample}
 use Rattle.pq_run.specs.Streams.{Reading, Writing}
 use Rattle.pq_run.specs.Ends.{HasWritten, CameToOutput, Ends}
 use Rattle.pq_run.specs.Ends.Ends.{done, cut}
+use Rattle.pq_run.proofs.Commands.{Asks-apart, reading-not_sample}
 use Rattle.pq_run.proofs.QuotientCommands.{input_of-quotient_command, IsBuilt-quotient_command, AtPrimeAndClass-quotient_command, OutputOf-quotient_command}
 
 -- what two facts say of the bytes that a source tells
@@ -48,10 +49,15 @@ module _ (words : List (List ℕ)) (p : Prime) (c : ℕ) (form : Form) (spelled 
     ),
   )
 
+  reading : Asks IsReading words
+  reading = (quotient_command p c form, spelled, (Presentation, (IsBuilt-quotient_command p c form, input_of-quotient_command p c form)))
+
   came : IfSome r.left (IsWithin Presentation) → IfSome r.left (HasSmallRanks (prime_value p) c) → CameToOutput words r
   came within small = record {
     built = (quotient_command p c form, spelled, IsBuilt-quotient_command p c form);
-    answered = IfSome-both (IsWithin Presentation) (HasSmallRanks (prime_value p) c) (λ bytes. Asks (IsAnswered bytes) words) answered r.left within small;
+    answered = λ reads.
+        IfSome-both (IsWithin Presentation) (HasSmallRanks (prime_value p) c) (λ bytes. Asks (IsAnswered bytes) words) answered r.left within small;
+    sample = λ asks. absurd (Asks-apart IsReading IsSample words (reading-not_sample (λ n. Unit {0})) reading asks);
   }
 
   written_so : (output : List ℕ) (P : List ℕ → Type 0) → IfSome r.left (λ text. WritesAnswer (prime_value p) c (written_as form) text output) → P output

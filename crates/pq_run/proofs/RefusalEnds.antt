@@ -12,7 +12,7 @@ use Rattle.pq_run.specs.Streams.{Reading, Writing}
 use Rattle.pq_run.specs.Cause.{IsCause}
 use Rattle.pq_run.specs.Ends.{TakesLine, NeedsMemory, EndsAs, EndsBy, IsDone, IsCut, IsRefused, Ends}
 use Rattle.pq_run.specs.Ends.Ends.{done, cut, refused}
-use Rattle.pq_run.proofs.Commands.{Asks-built}
+use Rattle.pq_run.proofs.Commands.{Asks-built, Asks-large-built}
 
 pub ends_as : (r told : Refusal) (w : Writing) (end : Status) → r ≡ told → end ≡ refusal_status told → TakesLine w (refusal_line told) → EndsBy r w end
 ends_as r told w end same is line =
@@ -40,7 +40,8 @@ wanting_cause words r UnbuiltCommand needs cause = absurd needs
 wanting_cause words r ReadFault needs cause = absurd needs
 wanting_cause words r (InputTooLong input) needs cause = absurd needs
 wanting_cause words r (Text fault) needs cause = Asks-built Presentation words cause.0
-wanting_cause words r (TooLarge part k rank) needs cause = Asks-built Presentation words cause.0
+wanting_cause words r (TooLarge part k rank) needs (inl of_input) = Asks-built Presentation words of_input.0
+wanting_cause words r (TooLarge part k rank) needs (inr of_sample) = Asks-large-built part k rank words of_sample
 wanting_cause words r NoMemory needs cause = absurd needs
 
 pub refuses : (words : List (List ℕ)) (r : Reading) (w : Writing) (end : Status) (refusal : Refusal) → IsCause words r refusal → EndsBy refusal w end

@@ -38,7 +38,7 @@ HasLargeRank-HasSmallRanks p c run k r bytes has small =
     small.small small.small_part
 
 -- the first class whose largest quotient has a rank above the limit, and this rank, are determined
-one_large_order : (L : LPresentation) (p c j k r s : ℕ) → 1 < p → IsTooLarge L p c j r → IsTooLarge L p c k s → (j ≡ k) × (r ≡ s)
+pub one_large_order : (L : LPresentation) (p c j k r s : ℕ) → 1 < p → IsTooLarge L p c j r → IsTooLarge L p c k s → (j ≡ k) × (r ≡ s)
 one_large_order L p c j k r s big x y = (same, orders_are_unique L p k r s big (subst (λ (i : ℕ). HasOrder L p i r) same x.order) y.order)
   where
     same : j ≡ k

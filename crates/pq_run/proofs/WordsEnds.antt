@@ -1,5 +1,5 @@
 -- What the words alone decide of how a command ends: whether it ends as bad words, and that a command that isn't built is refused.
-use Rattle.std.proofs.Common.{◌≡◌, ◌↔◌, ℕ, List, refl, sym, ◌∙◌}
+use Rattle.std.proofs.Common.{◌≡◌, ◌↔◌, ℕ, List, inl, inr, refl, sym, ◌∙◌}
 use Rattle.pq_base.specs.declared.status.Status.{Status}
 use Rattle.pq_base.specs.declared.status.Status.TheVariants as status
 use Rattle.pq_run.specs.declared.input.Input.TheVariants.{Presentation}
@@ -12,7 +12,7 @@ use Rattle.pq_run.specs.Streams.{Reading, Writing}
 use Rattle.pq_run.specs.Cause.{IsCause}
 use Rattle.pq_run.specs.Ends.{Ends}
 use Rattle.pq_run.specs.Ends.Ends.{done, cut, refused}
-use Rattle.pq_run.proofs.Commands.{Asks-words, Asks-apart, Asks-built, unbuilt-not_built}
+use Rattle.pq_run.proofs.Commands.{Asks-words, Asks-apart, Asks-built, Asks-large-built, unbuilt-not_built}
 
 -- a refusal is for words that are no command, for a command that isn't built, or for a command that is built
 data Kind (words : List (List ℕ)) (refusal : Refusal) : Type 0 where
@@ -26,7 +26,8 @@ kind_of_cause words r UnbuiltCommand cause = unbuilt refl (cause.0, cause.1)
 kind_of_cause words r ReadFault cause = built (λ e. cc) (cause.0.0, cause.0.1, cause.0.2.1.0)
 kind_of_cause words r (InputTooLong input) cause = built (λ e. cc) (Asks-built input words cause.0)
 kind_of_cause words r (Text fault) cause = built (λ e. cc) (Asks-built Presentation words cause.0)
-kind_of_cause words r (TooLarge part k rank) cause = built (λ e. cc) (Asks-built Presentation words cause.0)
+kind_of_cause words r (TooLarge part k rank) (inl of_input) = built (λ e. cc) (Asks-built Presentation words of_input.0)
+kind_of_cause words r (TooLarge part k rank) (inr of_sample) = built (λ e. cc) (Asks-large-built part k rank words of_sample)
 kind_of_cause words r NoMemory cause = built (λ e. cc) cause
 
 unbuilt_or_bad : status.NotBuilt ≡ status.BadWords → ⊥

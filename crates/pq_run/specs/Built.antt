@@ -2,20 +2,22 @@
 -- From: this project's own commands.
 use Rattle.std.specs.Prelude.{◌≡◌, ℕ, List, Some}
 use Rattle.derivation_log.specs.declared.source.Run.{Run}
+use Rattle.derivation_log.specs.declared.source.Run.TheVariants.{Whole}
 use Rattle.pq_run.specs.declared.command.Command.{Command}
 use Rattle.pq_run.specs.declared.command.Command.TheVariants.{Quotient, Json, Certify, Check, Sample}
 use Rattle.pq_run.specs.declared.input.Input.{Input}
 use Rattle.pq_run.specs.declared.input.Input.TheVariants.{Presentation}
-use Rattle.pq_run.specs.Command.{Asks, AtPrimeAndClass}
+use Rattle.pq_run.specs.Command.{Asks, AtPrimeAndClass, AtSample}
 use Rattle.pq_run.specs.Input.{input_of, IsAbove, IsWithin}
 use Rattle.pq_run.specs.Texts.{IsReadable, HasLargeRank, HasSmallRanks}
+use Rattle.pq_run.specs.SampleRanks.{HasLargeSampleRank, HasSmallSampleRanks}
 
 abbrev pub IsBuilt : Command → Type 0
 IsBuilt (Quotient p c) = Unit {0}
 IsBuilt (Json p c) = Unit {0}
 IsBuilt (Certify p c) = ⊥
 IsBuilt Check = ⊥
-IsBuilt (Sample n) = ⊥
+IsBuilt (Sample n) = Unit {0}
 
 -- a command that isn't built
 abbrev pub IsUnbuilt : Command → Type 0
@@ -23,7 +25,7 @@ IsUnbuilt (Quotient p c) = ⊥
 IsUnbuilt (Json p c) = ⊥
 IsUnbuilt (Certify p c) = Unit {0}
 IsUnbuilt Check = Unit {0}
-IsUnbuilt (Sample n) = Unit {0}
+IsUnbuilt (Sample n) = ⊥
 
 -- a command that is built and reads such an input
 abbrev pub ReadsInput : Input → Command → Type 0
@@ -59,7 +61,28 @@ IsTooLarge bytes command = (part : Run) × (k : ℕ) × (r : ℕ) × IsTooLargeF
 abbrev pub IsAnswered : List ℕ → Command → Type 0
 IsAnswered bytes command = IsGiven bytes command × AtPrimeAndClass (λ p c. HasSmallRanks p c bytes) command
 
+-- a command for a sample
+abbrev pub IsSample : Command → Type 0
+IsSample command = AtSample (λ n. Unit {0}) command
+
+-- a sample of which class k is the first whose largest quotient has a rank above the limit: the rank is r. It is one of the whole
+abbrev pub IsLargeSampleFor : Run → ℕ → ℕ → Command → Type 0
+IsLargeSampleFor part k r command = (part ≡ Whole) × AtSample (HasLargeSampleRank k r) command
+
+-- so, at some class
+abbrev pub IsLargeSample : Command → Type 0
+IsLargeSample command = (part : Run) × (k : ℕ) × (r : ℕ) × IsLargeSampleFor part k r command
+
+-- a sample none of whose largest quotients up to its class has a rank above the limit: its summary is written
+abbrev pub IsSmallSample : Command → Type 0
+IsSmallSample command = AtSample HasSmallSampleRanks command
+
 -- the words and the bytes determine the part, the first class whose rank is above the limit, and this rank
 abbrev pub OneTooLarge : Type 0
 OneTooLarge = (words : List (List ℕ)) (bytes : List ℕ) (part other : Run) (j k r s : ℕ) → Asks (IsTooLargeFor part j r bytes) words
     → Asks (IsTooLargeFor other k s bytes) words → (part ≡ other) × (j ≡ k) × (r ≡ s)
+
+-- so do the words alone, where they ask for a sample
+abbrev pub OneLargeSample : Type 0
+OneLargeSample = (words : List (List ℕ)) (part other : Run) (j k r s : ℕ) → Asks (IsLargeSampleFor part j r) words
+    → Asks (IsLargeSampleFor other k s) words → (part ≡ other) × (j ≡ k) × (r ≡ s)

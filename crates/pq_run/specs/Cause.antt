@@ -1,7 +1,8 @@
 -- What it takes for a command to be refused. Want of memory needs no cause but that the command is built.
 -- From: this project's own commands.
-use Rattle.std.specs.Prelude.{◌≡◌, ℕ, List, IfSome}
+use Rattle.std.specs.Prelude.{◌≡◌, ◌⊎◌, ℕ, List, IfSome}
 use Rattle.pq_io.specs.Faults.{Rose}
+use Rattle.derivation_log.specs.declared.source.Run.TheVariants.{Whole}
 use Rattle.pq_run.specs.declared.input.Input.{Input}
 use Rattle.pq_run.specs.declared.input.Input.TheVariants.{Presentation}
 use Rattle.pq_run.specs.declared.refusal.Refusal.{Refusal}
@@ -9,7 +10,8 @@ use Rattle.pq_run.specs.declared.refusal.Refusal.TheVariants.{Words, UnbuiltComm
 use Rattle.pq_run.specs.Command.{AreCommandWords, Asks}
 use Rattle.pq_run.specs.Input.{IsAbove, IsWithin}
 use Rattle.pq_run.specs.Texts.{HasFault, HasLargeRank}
-use Rattle.pq_run.specs.Built.{IsBuilt, IsUnbuilt, ReadsInput, IsReading, IsTooLargeFor}
+use Rattle.pq_run.specs.SampleRanks.{HasLargeSampleRank}
+use Rattle.pq_run.specs.Built.{IsBuilt, IsUnbuilt, ReadsInput, IsReading, IsTooLargeFor, IsLargeSampleFor}
 use Rattle.pq_run.specs.Streams.{Reading}
 
 -- what it takes for an input to be refused so before its text is read
@@ -40,7 +42,13 @@ IsInputCause p c r (Text fault) = HasTextCause p c r (Text fault)
 IsInputCause p c r (TooLarge part k rank) = HasTextCause p c r (TooLarge part k rank)
 IsInputCause p c r NoMemory = Unit {0}
 
--- what it takes for a command to be refused so
+-- what it takes for a sample to be refused so
+abbrev pub IsSampleCause : ℕ → Refusal → Type 0
+IsSampleCause n (TooLarge part k rank) = (part ≡ Whole) × HasLargeSampleRank k rank n
+IsSampleCause n NoMemory = Unit {0}
+IsSampleCause n _ = ⊥
+
+-- what it takes for a command to be refused so. Of a rank that is too large the input is the cause, or the sample
 abbrev pub IsCause : List (List ℕ) → Reading → Refusal → Type 0
 IsCause words r Words = ¬ AreCommandWords words
 IsCause words r UnbuiltCommand = Asks IsUnbuilt words
@@ -49,5 +57,6 @@ IsCause words r (InputTooLong input) = Asks (ReadsInput input) words × IfSome r
 IsCause words r (Text fault) =
     Asks (ReadsInput Presentation) words × IfSome r.left (λ bytes. IsWithin Presentation bytes × HasFault fault bytes)
 IsCause words r (TooLarge part k rank) =
-    Asks (ReadsInput Presentation) words × IfSome r.left (λ bytes. Asks (IsTooLargeFor part k rank bytes) words)
+    (Asks (ReadsInput Presentation) words × IfSome r.left (λ bytes. Asks (IsTooLargeFor part k rank bytes) words))
+    ⊎ Asks (IsLargeSampleFor part k rank) words
 IsCause words r NoMemory = Asks IsBuilt words

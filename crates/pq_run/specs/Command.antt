@@ -45,3 +45,11 @@ AtPrimeAndClass P (Json p c) = P (prime_value p) c
 AtPrimeAndClass P (Certify p c) = P (prime_value p) c
 AtPrimeAndClass P Check = ⊥
 AtPrimeAndClass P (Sample n) = ⊥
+
+-- the command for a sample, and this holds of its number
+abbrev pub AtSample : (ℕ → Type 0) → Command → Type 0
+AtSample P (Quotient p c) = ⊥
+AtSample P (Json p c) = ⊥
+AtSample P (Certify p c) = ⊥
+AtSample P Check = ⊥
+AtSample P (Sample n) = P n

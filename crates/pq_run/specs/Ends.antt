@@ -11,7 +11,7 @@ use Rattle.pq_run.specs.declared.refusal.Refusal.TheVariants.{Text, TooLarge, No
 use Rattle.pq_run.specs.Command.{CommandWords, Asks}
 use Rattle.pq_run.specs.Input.{input_of, read_of, IsReadToEnd}
 use Rattle.pq_run.specs.Output.{Output}
-use Rattle.pq_run.specs.Built.{IsBuilt, IsAnswered}
+use Rattle.pq_run.specs.Built.{IsBuilt, IsReading, IsAnswered, IsSample, IsSmallSample}
 use Rattle.pq_run.specs.Refusals.{refusal_line, refusal_status}
 use Rattle.pq_run.specs.Cause.{IsCause}
 use Rattle.pq_run.specs.Streams.{Reading, Writing}
@@ -34,6 +34,11 @@ pub record IsCut (words : List (List ℕ)) (r : Reading) (w : Writing) : Type 0 
   pub read : IsReadToEnd (input_of command) r.left r.rest
   pub written : IfSome (read_of (input_of command) r.left) (λ bytes. HasWritten words bytes (GainsProperPrefix w.taken w.then))
   pub fault : Rose w.before w.after
+
+-- each output of the command for what was read is what was written
+abbrev pub IsOnlyOutput : List (List ℕ) → Reading → Writing → Type 0
+IsOnlyOutput words r w = (command : Command) → CommandWords words command
+    → IfSome (read_of (input_of command) r.left) (λ bytes. (o : List ℕ) → Output words bytes o → Gains w.taken w.then o)
 
 -- a sink took this line, or a proper prefix of it because it failed
 abbrev pub TakesLine : Writing → List ℕ → Type 0
@@ -64,10 +69,12 @@ NeedsMemory _ = ⊥
 abbrev pub EndsBy : Refusal → Writing → Status → Type 0
 EndsBy refusal w end = EndsAs refusal w end ⊎ (NeedsMemory refusal × EndsAs NoMemory w end)
 
--- what is known of a command that came to its output: it is built, and what was read is answered
+-- what is known of a command that came to its output: it is built, and what was read is answered, where it reads an input; the sample
+-- has small ranks, where it is one for a sample
 pub record CameToOutput (words : List (List ℕ)) (r : Reading) : Type 0 where
   pub built : Asks IsBuilt words
-  pub answered : IfSome r.left (λ bytes. Asks (IsAnswered bytes) words)
+  pub answered : Asks IsReading words → IfSome r.left (λ bytes. Asks (IsAnswered bytes) words)
+  pub sample : Asks IsSample words → Asks IsSmallSample words
 
 pub data Ends (words : List (List ℕ)) (r : Reading) (w : Writing) (end : Status) : Type 0 where
   done : end ≡ status.Done → CameToOutput words r → IsDone words r w → Ends words r w end

@@ -5,7 +5,7 @@
 --   map of the generators into a finite group of p-class at most c satisfying those relators factors exactly once.
 --
 -- From: the universal property of a group modulo a term of its lower exponent-p series.
-use Rattle.std.specs.Prelude.{◌≡◌, ◌<◌, ℕ, ℤ, List, [], get_or, length, Option, Some, IfSome}
+use Rattle.std.specs.Prelude.{◌≡◌, ◌<◌, ℕ, List, [], get_or, length, Option, Some, IfSome}
 use Rattle.pq_base.specs.declared.prime.Prime.{Prime}
 use Rattle.pq_base.specs.Prime.{prime_value}
 use Rattle.pq_base.specs.SignedWord.{sub}

@@ -4,6 +4,7 @@ pub mod Input
 pub mod Form
 pub mod Output
 pub mod Texts
+pub mod SampleRanks
 pub mod Built
 pub mod Refusals
 pub mod Streams

@@ -11,6 +11,8 @@ use Rattle.lpres_reader.specs.Reads.{Reads}
 use Rattle.answer_text.specs.AnswerText.{answer_text}
 use Rattle.answer_text.specs.AnswerData.{answer_json}
 use Rattle.answer_text.specs.OneText.{IsWritable}
+use Rattle.samples.specs.Samples.{sample_presentation, sample_prime, sample_class}
+use Rattle.samples.specs.Summary.{summary_text}
 use Rattle.pq_run.specs.declared.command.Command.{Command}
 use Rattle.pq_run.specs.declared.command.Command.TheVariants.{Quotient, Json, Certify, Check, Sample}
 use Rattle.pq_run.specs.Command.{Asks}
@@ -28,12 +30,19 @@ pub record WritesAnswer (p c : ℕ) (form : Answer → List ℕ) (bytes written 
   pub writable : IsWritable answer
   pub text : written ≡ form answer
 
+-- what is written is the summary of the canonical largest quotient of the sample of this number, for its prime and its class
+pub record WritesSummary (n : ℕ) (written : List ℕ) : Type 0 where
+  pub answer : Answer
+  pub largest : IsLargest (sample_presentation n) (sample_prime n) sample_class answer
+  pub canonical : IsCanonical answer
+  pub text : written ≡ summary_text n answer
+
 abbrev pub OutputOf : Command → List ℕ → List ℕ → Type 0
 OutputOf (Quotient p c) bytes written = WritesAnswer (prime_value p) c answer_text bytes written
 OutputOf (Json p c) bytes written = WritesAnswer (prime_value p) c answer_json bytes written
 OutputOf (Certify p c) bytes written = ⊥
 OutputOf Check bytes written = ⊥
-OutputOf (Sample n) bytes written = ⊥
+OutputOf (Sample n) bytes written = WritesSummary n written
 
 -- the words are those of a command, and this is an output of it for these bytes
 abbrev pub Output : List (List ℕ) → List ℕ → List ℕ → Type 0
@@ -42,3 +51,7 @@ Output words bytes written = Asks (λ command. OutputOf command bytes written) w
 -- what is written as text for given bytes determines the answer
 abbrev pub OneOutputOneAnswer : Type 0
 OneOutputOneAnswer = (p c : ℕ) (bytes written : List ℕ) (x y : WritesAnswer p c answer_text bytes written) → x.answer ≡ y.answer
+
+-- the words and the bytes determine what is written, for each command that is built
+abbrev pub OneOutput : Type 0
+OneOutput = (words : List (List ℕ)) (bytes output other : List ℕ) → Output words bytes output → Output words bytes other → output ≡ other

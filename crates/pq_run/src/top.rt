@@ -6,15 +6,18 @@ ghost use Rattle.pq_run.specs.declared.input.Input.TheVariants.{Presentation};
 ghost use Rattle.pq_run.specs.Command.{IsClass, AreCommandWords, CommandWords, Asks};
 ghost use Rattle.pq_run.specs.Input.{byte_limit, IsTaken, IsTakenBy};
 ghost use Rattle.pq_run.specs.Form.{quotient_command};
-ghost use Rattle.pq_run.specs.Built.{IsUnbuilt, IsReading, IsTooLong, IsBadText, IsTooLarge, IsAnswered};
-ghost use Rattle.pq_run.specs.Streams.{reading_of, writing_of};
-ghost use Rattle.pq_run.specs.Ends.{IsDone, IsCut, IsRefused, IsDecided, Ends};
+ghost use Rattle.samples.specs.Samples.{max_sample};
+ghost use Rattle.pq_run.specs.declared.command.Command.TheVariants.{Sample};
+ghost use Rattle.pq_run.specs.Built.{IsUnbuilt, IsReading, IsTooLong, IsBadText, IsTooLarge, IsAnswered, IsLargeSample, IsSmallSample};
+ghost use Rattle.pq_run.specs.Streams.{Reading, reading_of, writing_of};
+ghost use Rattle.pq_run.specs.Ends.{IsDone, IsOnlyOutput, IsCut, IsRefused, IsDecided, Ends};
 ghost use Rattle.pq_run.specs.Headline.{Headline};
 
 use crate::command::{Command, parse_words};
 use crate::form::Form;
 use crate::output::output_of_source;
 use crate::refusal::{Refusal, refuse};
+use crate::sample_output::output_of_sample;
 use crate::words::Words;
 use pq_base::{Prime, Status};
 use pq_io::{Sink, Source, write_whole};
@@ -22,7 +25,7 @@ use std::alloc::Global;
 
 /// Carries out the command that the words spell: reads its input to the end and writes its output, or a line that says why
 /// the command is refused. The line is written as far as the sink takes it.
-/// Built so far: `quotient P C` and `quotient P C json`.
+/// Built so far: `quotient P C`, `quotient P C json` and `sample N`, which reads nothing.
 pub fn run<S: Source, K: Sink>(alloc: Global, words: &Words, source: &mut S, sink: &mut K) -> Status
     // With status 0, `quotient P C` has read one presentation to its end, and has written its largest quotient: line by line.
     ensures headline { result ≡ Status.Done
@@ -31,6 +34,10 @@ pub fn run<S: Source, K: Sink>(alloc: Global, words: &Words, source: &mut S, sin
     // With status 0 each command has read its input to its end, and has written one output, and nothing else.
     ensures done { result ≡ Status.Done
         → IsDone words.now (reading_of S.left S.faults source.old source.new) (writing_of K.taken K.faults sink.old sink.new) }
+
+    // That output is the only one: the words and what was read determine it.
+    ensures only { result ≡ Status.Done
+        → IsOnlyOutput words.now (reading_of S.left S.faults source.old source.new) (writing_of K.taken K.faults sink.old sink.new) }
 
     // Only a sink that failed ends an output early.
     ensures write_fault { result ≡ Status.WriteFault
@@ -56,6 +63,11 @@ pub fn run<S: Source, K: Sink>(alloc: Global, words: &Words, source: &mut S, sin
     ensures complete { IfSome (S.left source.old) (λ bytes. Asks (IsAnswered bytes) words.now
         → ¬ Rose (S.faults source.old) (S.faults source.new) → ¬ Rose (K.faults sink.old) (K.faults sink.new)
         → (result ≡ Status.Done) ⊎ (result ≡ Status.NoMemory)) }
+
+    // The same of a sample, for which nothing is asked of the source: the number decides, unless memory is wanting.
+    ensures sample_too_large { Asks IsLargeSample words.now → (result ≡ Status.TooLarge) ⊎ (result ≡ Status.NoMemory) }
+    ensures sample_complete { Asks IsSmallSample words.now → ¬ Rose (K.faults sink.old) (K.faults sink.new)
+        → (result ≡ Status.Done) ⊎ (result ≡ Status.NoMemory) }
 
     ensures read_count { S.faults source.old ≤ S.faults source.new }
     ensures write_count { K.faults sink.old ≤ K.faults sink.new }
@@ -90,7 +102,7 @@ fn carry_out<S: Source, K: Sink>(
         }
         Some(Command::Certify(..)) => refuse(alloc, sink, Refusal::UnbuiltCommand),
         Some(Command::Check) => refuse(alloc, sink, Refusal::UnbuiltCommand),
-        Some(Command::Sample(_)) => refuse(alloc, sink, Refusal::UnbuiltCommand),
+        Some(Command::Sample(n)) => summarize(alloc, n, sink),
     }
 }
 
@@ -112,6 +124,20 @@ fn quotient<S: Source, K: Sink>(
     ensures silent { IsNone (K.taken sink.old) → IsNone (K.taken sink.new) }
 {
     match output_of_source(alloc, prime, class, form, source) {
+        Ok(bytes) => finish(sink, &bytes),
+        Err(refusal) => refuse(alloc, sink, refusal),
+    }
+}
+
+/// Writes the summary of a sample's answer.
+fn summarize<K: Sink>(alloc: Global, n: u32, sink: &mut K) -> Status
+    requires { n ≤ max_sample }
+    ensures ends { (words : List (List ℕ)) (r : Reading) → CommandWords words (Sample n) → r.rest ≡ r.left
+        → Ends words r (writing_of K.taken K.faults sink.old sink.new) result }
+    ensures count { K.faults sink.old ≤ K.faults sink.new }
+    ensures silent { IsNone (K.taken sink.old) → IsNone (K.taken sink.new) }
+{
+    match output_of_sample(alloc, n) {
         Ok(bytes) => finish(sink, &bytes),
         Err(refusal) => refuse(alloc, sink, refusal),
     }

@@ -1,8 +1,10 @@
--- Words that are no command, and commands that aren't built, are refused; and only where a command is built the source is read.
+-- Words that are no command, and commands that aren't built, are refused; and only where a command reads an input the source is read.
+use Rattle.std.proofs.Common.{refl}
 use Rattle.pq_run.specs.declared.form.Form.TheVariants.{Text, Json}
 use Rattle.pq_run.specs.declared.refusal.Refusal.TheVariants.{Words, UnbuiltCommand}
 use Rattle.pq_run.specs.Built.{IsUnbuilt}
-use Rattle.pq_run.proofs.Commands.{Asks-same}
+use Rattle.pq_run.specs.Streams.{reading_of}
+use Rattle.pq_run.proofs.Commands.{Asks-same, spelled-same}
 use Rattle.pq_run.proofs.QuotientCommands.{IsClass-quotient_command}
 use Rattle.pq_run.proofs.RefusalEnds.{refuses}
 use Rattle.pq_run.proofs.top.carry_out.Goals as goal
@@ -20,7 +22,8 @@ returns-in-Some-Check-clause-ends g c =
 
 pub returns-in-Some-Sample-clause-ends : goal.returns-in-Some-Sample-clause-ends
 returns-in-Some-Sample-clause-ends g c =
-    refuses _ _ _ _ UnbuiltCommand (Asks-same IsUnbuilt _ _ _ c.in-Some-Sample.ensures.some c.in-Some-Sample.field-0-is tt) c.refuse-in-Some-Sample.ensures.ends
+    c.summarize.ensures.ends _ (reading_of g.S.Source.left g.S.Source.faults c.args.source.now c.args.source.now)
+    (spelled-same _ _ _ c.in-Some-Sample.ensures.some c.in-Some-Sample.field-0-is) refl
 
 pub quotient-requires : goal.quotient-requires
 quotient-requires g c =
@@ -29,3 +32,6 @@ quotient-requires g c =
 pub quotient-requires-in-Some-Json : goal.quotient-requires-in-Some-Json
 quotient-requires-in-Some-Json g c =
     IsClass-quotient_command _ _ c.in-Some-Json.prime c.in-Some-Json.class Json c.in-Some-Json.ensures.some c.in-Some-Json.field-0-is
+
+pub summarize-requires : goal.summarize-requires
+summarize-requires g c = let spelled = spelled-same _ _ _ c.in-Some-Sample.ensures.some c.in-Some-Sample.field-0-is in spelled.range

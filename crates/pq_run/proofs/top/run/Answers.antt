@@ -3,6 +3,8 @@ use Rattle.pq_run.proofs.WordsEnds.{bad_words-ends, command-ends}
 use Rattle.pq_run.proofs.InputEnds.{too_long-ends, bad_text-ends, too_large-ends, complete-ends}
 use Rattle.pq_run.proofs.RefusalEnds.{done-ends, write_fault-ends, refused-ends}
 use Rattle.pq_run.proofs.Headlines.{headline}
+use Rattle.pq_run.proofs.OneOutputs.{only_output}
+use Rattle.pq_run.proofs.SampleEnds.{sample_too_large-ends, sample_complete-ends}
 use Rattle.pq_run.proofs.top.run.Goals as goal
 
 pub returns-clause-headline : goal.returns-clause-headline
@@ -10,6 +12,9 @@ returns-clause-headline g c is = headline _ _ _ (done-ends _ _ _ _ c.carry_out.e
 
 pub returns-clause-done : goal.returns-clause-done
 returns-clause-done g c = done-ends _ _ _ _ c.carry_out.ensures.ends
+
+pub returns-clause-only : goal.returns-clause-only
+returns-clause-only g c is = only_output _ _ _ (done-ends _ _ _ _ c.carry_out.ensures.ends is)
 
 pub returns-clause-write_fault : goal.returns-clause-write_fault
 returns-clause-write_fault g c = write_fault-ends _ _ _ _ c.carry_out.ensures.ends
@@ -34,3 +39,9 @@ returns-clause-too_large g c = too_large-ends _ _ _ _ c.carry_out.ensures.ends
 
 pub returns-clause-complete : goal.returns-clause-complete
 returns-clause-complete g c = complete-ends _ _ _ _ c.carry_out.ensures.ends
+
+pub returns-clause-sample_too_large : goal.returns-clause-sample_too_large
+returns-clause-sample_too_large g c = sample_too_large-ends _ _ _ _ c.carry_out.ensures.ends
+
+pub returns-clause-sample_complete : goal.returns-clause-sample_complete
+returns-clause-sample_complete g c = sample_complete-ends _ _ _ _ c.carry_out.ensures.ends

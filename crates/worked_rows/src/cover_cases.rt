@@ -2,12 +2,15 @@
 //! with a tail for each relation and image that defines no generator, and `cover N` with tails for the first N of these
 //! alone: the answer is what each tail comes from, and the images with their tails and inverses. `tail SOURCE` is the tail
 //! of `[aJ,aI]`, `aJ^P` or `image I`. `overlaps` are the rows of all overlaps, each without memory, and `relator LETTERS` is
-//! the row of a relator, where it has one.
+//! the row of a relator, where it has one. `light` is the light cover, shown as `cover` shows it, `tests` are the overlaps that leave
+//! room for the next class with their rows there, and `carries SOURCE` says whether a relation or an image has room.
 
-ghost use Rattle.std.specs.Prelude.{◌≡◌, IfOk, length};
+ghost use Rattle.std.specs.Prelude.{◌≡◌, IfOk, IsTrue, length};
 ghost use Rattle.pq_base.specs.SignedWord.{HasLetters};
 ghost use Rattle.pc_presentation.specs.Scratch.{IsScratch};
 ghost use Rattle.p_cover.specs.Covers.{cover_presentation};
+ghost use Rattle.p_cover.specs.CoverLaws.{IsSource};
+ghost use Rattle.p_cover.specs.Sources.{source_of};
 
 use crate::answer_cases::read_short;
 use crate::cases::Cases;
@@ -25,6 +28,7 @@ use p_cover::{Cover, Images, TailSource, cover_of, full_cover, want_order};
 use pc_presentation::{Answer, Overlap, Relation, Scratch};
 use plain_collector::Plain;
 use std::alloc::Global;
+use tails_by_weight::{carries, light_cover, light_tests};
 
 #[derive(Drop)]
 pub(crate) struct CoverCases {
@@ -73,6 +77,9 @@ fn calculate(
         }
         "tail" => show_tail(&full_cover(alloc, answer)?, source_of(rest)?, out),
         "overlaps" => show_overlaps(alloc, &full_cover(alloc, answer)?, out),
+        "light" => show_cover(alloc, &light_cover(alloc, answer)?, out),
+        "tests" => show_tests(alloc, answer, out),
+        "carries" => show_carries(answer, source_of(rest)?, out),
         "relator" => {
             let word = word_of(alloc, rest)?;
             show_relator(alloc, &full_cover(alloc, answer)?, &word, out)
@@ -177,6 +184,39 @@ fn show_overlaps(alloc: Global, cover: &Cover, out: &mut String) -> Result<()> {
         out.push('\n')?;
     }
     Ok(())
+}
+
+fn show_tests(alloc: Global, answer: &Answer, out: &mut String) -> Result<()> {
+    let cover = light_cover(alloc, answer)?;
+    for overlap in light_tests(alloc, answer)? {
+        write!(out, "    ")?;
+        show_overlap(out, overlap)?;
+        out.push(':')?;
+        show_overlap_row(alloc, &cover, overlap, out)?;
+        out.push('\n')?;
+    }
+    Ok(())
+}
+
+fn show_carries(answer: &Answer, source: TailSource, out: &mut String) -> Result<()> {
+    if !is_source(answer, source) {
+        bail!("no relation or image of the answer");
+    }
+    let carries = carries(answer, source);
+    writeln!(out, "    {carries}")?;
+    Ok(())
+}
+
+/// Whether this is a relation or an image of an answer.
+fn is_source(answer: &Answer, source: TailSource) -> bool
+    ensures { IsTrue result → IsSource answer.now (source_of source) }
+{
+    let rank = answer.pcp().rank();
+    match source {
+        TailSource::Commutator(j, i) => 1 <= i && i < j && j <= rank,
+        TailSource::Power(j) => 1 <= j && j <= rank,
+        TailSource::Image(i) => 1 <= i && i as usize <= answer.names().len(),
+    }
 }
 
 fn show_overlap_row(

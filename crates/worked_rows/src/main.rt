@@ -8,6 +8,7 @@
 //! docs/ROWS.md lists the files.
 #![tactic(auto)]
 
+mod alike_cases;
 mod answer_cases;
 mod base_cases;
 mod broken;
@@ -33,6 +34,7 @@ mod text;
 mod tower_cases;
 mod word_cases;
 
+use crate::alike_cases::AlikeCases;
 use crate::answer_cases::AnswerCases;
 use crate::base_cases::BaseCases;
 use crate::cases::{Cases, transcript};
@@ -68,6 +70,7 @@ fn main(rt: HostRuntime) -> Result<()> {
     show::<EndoCases>(&rt, &folder, "endos")?;
     show::<LogCases>(&rt, &folder, "logs")?;
     show::<TowerCases>(&rt, &folder, "towers")?;
+    show::<AlikeCases>(&rt, &folder, "alike")?;
     show::<RunCases>(&rt, &folder, "commands")
 }
 

@@ -274,14 +274,14 @@ fn show_tower(
     }
 }
 
-fn show_rows(out: &mut String, head: &str, rows: &[usize]) -> Result<()> {
+pub(crate) fn show_rows(out: &mut String, head: &str, rows: &[usize]) -> Result<()> {
     out.push_str(head)?;
     show_numbers(out, rows)?;
     out.push('\n')?;
     Ok(())
 }
 
-fn show_too_large(part: Run, class: u8, rank: u32, out: &mut String) -> Result<()> {
+pub(crate) fn show_too_large(part: Run, class: u8, rank: u32, out: &mut String) -> Result<()> {
     let part = match part {
         Run::Iterated => "iterated part",
         Run::Whole => "whole",

@@ -7,8 +7,8 @@ use Rattle.lpres_reader.specs.declared.token.Symbol.{Symbol}
 use Rattle.lpres_reader.specs.declared.token.Symbol.TheVariants.{Arrow, Star, Caret, Minus, Equals, Comma, OpenRound, CloseRound, OpenSquare, CloseSquare}
 use Rattle.lpres_reader.specs.declared.syntax.Stage.{Stage}
 use Rattle.lpres_reader.specs.declared.syntax.Stage.TheVariants as at
-use Rattle.lpres_reader.specs.declared.syntax.Bracket.{Bracket}
-use Rattle.lpres_reader.specs.declared.syntax.Bracket.TheVariants.{Round, Square}
+use Rattle.lpres_reader.specs.declared.brackets.Bracket.{Bracket}
+use Rattle.lpres_reader.specs.declared.brackets.Bracket.TheVariants.{Round, Square}
 use Rattle.lpres_reader.specs.declared.syntax.Outer.{Outer}
 use Rattle.lpres_reader.specs.declared.syntax.Outer.TheVariants.{Relators, Arrows}
 use Rattle.lpres_reader.specs.declared.syntax.Form.{Form}

@@ -2,6 +2,7 @@
 //! means a presentation; any other text is refused by its first fault.
 #![tactic(auto)]
 
+mod brackets;
 mod canonical;
 mod copies;
 mod depth;

@@ -1,7 +1,7 @@
 //! The form of a line, whatever its names and numbers are.
 
-ghost use Rattle.std.specs.Prelude.{◌≡◌, [], ◌∷◌, ◌&&◌, MatchOption, MatchResult, Err};
-ghost use Rattle.lpres_reader.specs.declared.fault.Stop.TheVariants.{NoMemory as WantOfMemory, Fault as Faulty};
+ghost use Rattle.std.specs.Prelude.{◌≡◌, [], ◌&&◌, MatchResult, Err};
+ghost use Rattle.lpres_reader.specs.declared.fault.Stop.TheVariants.{Fault as Faulty};
 ghost use Rattle.lpres_reader.specs.declared.fault.Kind.TheVariants.{Syntax as SyntaxFault};
 ghost use Rattle.lpres_reader.specs.Front.{token_of};
 ghost use Rattle.lpres_reader.specs.Faults.{ItemForm};
@@ -11,6 +11,7 @@ ghost use Rattle.lpres_reader.specs.Stops.{Refuses};
 ghost use Rattle.lpres_reader.specs.declared.syntax.Outer.TheVariants.{Relators};
 ghost use Rattle.lpres_reader.specs.Forms.{Found, form, unit_form, outer_form, bracket_form, word_form, behind_form, factor_form, exponent_form, form_step, first_form, is_behind, nothing_open};
 
+use crate::brackets::{Bracket, Brackets};
 use crate::fault::{Kind, Stop};
 use crate::known::are_known;
 use crate::plain::passed_over;
@@ -18,7 +19,6 @@ use crate::token::{Symbol, Token, next_name, next_token};
 use indexmap::IndexSet;
 use pq_base::Name;
 use std::alloc::Global;
-use std::marker::Model;
 
 /// What the next token stands behind.
 #[derive(Clone, Copy)]
@@ -37,61 +37,11 @@ pub(crate) enum Stage {
     Behind,
 }
 
-/// An open bracket. A square one may have entries already.
-#[derive(Clone, Copy)]
-pub(crate) enum Bracket {
-    Round,
-    Square(bool),
-}
-
 /// What stands on a line. A relator may have the left side of an equation already.
 #[derive(Clone, Copy)]
 pub(crate) enum Outer {
     Relators(bool),
     Arrows,
-}
-
-/// The brackets that are open.
-#[derive(Drop)]
-pub(crate) struct Brackets {
-    list: Vec<Bracket>,
-}
-
-impl Model for Brackets {
-    ghost use Rattle.std.specs.Prelude.{List, reverse};
-    ghost use Rattle.lpres_reader.specs.declared.syntax.Bracket.{Bracket};
-
-    ghost Value = { List Bracket };
-
-    ghost view = { λ b. reverse b.list.items };
-}
-
-impl Brackets {
-    fn none(alloc: Global) -> Brackets
-        ensures { result ≡ [] }
-    {
-        Brackets {
-            list: Vec::new(alloc),
-        }
-    }
-
-    fn push(self, bracket: Bracket) -> Result<Brackets, Stop>
-        ensures { MatchResult result (λ more. more ≡ bracket ∷ self) (λ e. e ≡ WantOfMemory) }
-    {
-        let mut list = self.list;
-        list.push(bracket)?;
-        Ok(Brackets { list })
-    }
-
-    fn pop(self) -> Option<(Bracket, Brackets)>
-        ensures { MatchOption result (self ≡ []) (λ top. self ≡ top.0 ∷ top.1) }
-    {
-        let mut list = self.list;
-        match list.pop() {
-            None => None,
-            Some(bracket) => Some((bracket, Brackets { list })),
-        }
-    }
 }
 
 /// The form of a line so far.

@@ -1,8 +1,8 @@
 -- The forms of what is parsed.
 use Rattle.std.specs.Prelude.{Bool, true, false, List, [], ◌∷◌, is_some}
 use Rattle.lpres_reader.specs.declared.syntax.Stage.TheVariants as at
-use Rattle.lpres_reader.specs.declared.syntax.Bracket.{Bracket}
-use Rattle.lpres_reader.specs.declared.syntax.Bracket.TheVariants.{Round, Square}
+use Rattle.lpres_reader.specs.declared.brackets.Bracket.{Bracket}
+use Rattle.lpres_reader.specs.declared.brackets.Bracket.TheVariants.{Round, Square}
 use Rattle.lpres_reader.specs.declared.syntax.Outer.{Outer}
 use Rattle.lpres_reader.specs.declared.syntax.Outer.TheVariants.{Relators, Arrows}
 use Rattle.lpres_reader.specs.declared.syntax.Form.{Form}

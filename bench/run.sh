@@ -82,8 +82,46 @@ products() {
     done
 }
 
+# start: the smallest input, in milliseconds a run
+start() {
+    printf 'generators x\n' >"$work/smallest"
+    from=$(date +%s%N)
+    for _ in $(seq 100); do
+        "$engine" quotient 2 1 <"$work/smallest" >/dev/null
+    done
+    to=$(date +%s%N)
+    echo "start: quotient 2 1 on one generator in $(awk -v n="$((to - from))" 'BEGIN { printf "%.2f\n", n / 1e8 }') ms"
+}
+
+# user_seconds COMMAND..: the least of three runs
+user_seconds() {
+    for _ in 1 2 3; do
+        /usr/bin/time -f '%U' -o "$work/time" "$@" >/dev/null
+        cat "$work/time"
+    done | sort -n | head -1
+}
+
+# growth: what the classes from one to the next of these take, and from 50 on by which power of the class that grew since 30
+growth() {
+    for group in "dihedral 2" "triangle_three_three_three 3"; do
+        # shellcheck disable=SC2086
+        set -- $group
+        for class in 20 30 40 50 60; do
+            echo "$class $(user_seconds sh -c "$engine quotient $2 $class <examples/$1.txt")"
+        done | awk -v name="$1" '
+            { took[$1] = $2 }
+            $1 > 20 { printf "growth %s: classes %d to %d in %.2f s\n", name, $1 - 9, $1, took[$1] - took[$1 - 10] }
+            END {
+                early = took[40] - took[30]; late = took[60] - took[50]
+                printf "growth %s: power of the class %.1f\n", name, log(late / (early > 0.005 ? early : 0.005)) / log(55.5 / 35.5)
+            }'
+    done
+}
+
 reader
 texts
 rows
 basis
 products
+start
+growth

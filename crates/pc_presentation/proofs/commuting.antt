@@ -7,3 +7,7 @@ pub mod LettersStay
 pub mod Leads
 pub mod PlainSteps
 pub mod ShortcutLaws
+pub mod EmptySides
+pub mod Shortcuts
+pub mod AddedTails
+pub mod ExponentsBetween

@@ -2,7 +2,8 @@
 -- generators count from 0.
 -- From: collection by whole powers, which leaves alone what commutes, as in the collectors of C. R. Leedham-Green and L. H. Soicher,
 -- Collection from the left and other strategies, 1990.
-use Rattle.std.specs.Prelude.{◌≡◌, ◌<◌, ◌≤◌, ℕ, suc, List, ◌++◌, ◌-◌, replicate, take, drop}
+use Rattle.std.specs.Prelude.{◌≡◌, ◌<◌, ◌≤◌, ℕ, suc, List, ◌++◌, ◌-◌, length, get_or, replicate, take, drop}
+use Rattle.pq_base.specs.Limits.{max_rank}
 use Rattle.pq_base.specs.Presentation.{commutator_side}
 use Rattle.pc_presentation.specs.Rowed.{RowedPresentation, commutator_row}
 use Rattle.pc_presentation.specs.Collection.{spelled}
@@ -26,6 +27,13 @@ pub record IsFirstCommuting (Y : RowedPresentation) (m z : ℕ) : Type 0 where
 -- exponents with 0 at the places after i and before z
 abbrev pub cleared_between : ℕ → ℕ → List ℕ → List ℕ
 cleared_between i z e = take (suc i) e ++ (replicate (z - suc i) 0 ++ drop z e)
+
+-- the exponents at the places from a on and before z, each at its place, and 0 at each other place
+pub record AreBetween (a z : ℕ) (e part : List ℕ) : Type 0 where
+  pub count : length part ≡ max_rank
+  pub same : (k : ℕ) → a ≤ k → k < z → get_or part k 0 ≡ get_or e k 0
+  pub before : (k : ℕ) → k < a → get_or part k 0 ≡ 0
+  pub behind : (k : ℕ) → z ≤ k → get_or part k 0 ≡ 0
 
 -- the letters of the exponents at the places after i and before z
 abbrev pub letters_between : ℕ → ℕ → List ℕ → List ℕ

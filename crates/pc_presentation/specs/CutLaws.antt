@@ -1,7 +1,7 @@
 -- Presentations cut after some generator: what is proved of them. Each statement is the contract of a function of
 -- `cut_laws`.
 -- From: the quotients of a power-commutator presentation by its last generators, as in Newman and O'Brien's method.
-use Rattle.std.specs.Prelude.{◌<◌, ◌≤◌, ◌-◌, ℕ, ℤ, List, []}
+use Rattle.std.specs.Prelude.{◌≤◌, ◌-◌, ℕ, ℤ, List, []}
 use Rattle.pq_base.specs.SignedWord.{sub, HasLetters}
 use Rattle.pq_base.specs.Presentation.{Presentation, IsPresentation, IsNormal, word_from}
 use Rattle.pq_base.specs.Joined.{Joined, IsConsistent}

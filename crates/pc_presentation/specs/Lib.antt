@@ -16,6 +16,7 @@ pub mod Arithmetic
 pub mod NormalTable
 pub mod CollectionLaws
 pub mod CommutingLaws
+pub mod AddedRows
 pub mod Tailed
 pub mod CommutingNumbers
 pub mod Scratch

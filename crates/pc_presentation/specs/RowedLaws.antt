@@ -1,7 +1,7 @@
 -- What is proved of presentations with rows, whether or not they are consistent. Each statement is the contract of a
 -- function of `rowed_laws`.
 -- From: the p-covering groups of Newman and O'Brien's method.
-use Rattle.std.specs.Prelude.{◌≡◌, ◌<◌, ◌+◌, ◌-◌, ℕ, suc, ℤ, List, [], ◌++◌, replicate}
+use Rattle.std.specs.Prelude.{◌≡◌, ◌+◌, ℕ, suc, ℤ, List, [], ◌++◌, replicate}
 use Rattle.fp_rows.specs.Rows.{scale_row, negative_row}
 use Rattle.pq_base.specs.SignedWord.{inv, copies, sub, HasLetters}
 use Rattle.pq_base.specs.Presentation.{IsNormal, letter, word_from, normal_word}

@@ -6,7 +6,7 @@ ghost use Rattle.fp_rows.specs.Rows.{IsRow, add_scaled};
 ghost use Rattle.fp_rows.specs.Row.{IsColumn};
 ghost use Rattle.pc_presentation.specs.Pcp.{unit_row};
 ghost use Rattle.pc_presentation.specs.Collection.{add_row};
-ghost use Rattle.pc_presentation.specs.Commuting.{cleared_between};
+ghost use Rattle.pc_presentation.specs.Commuting.{AreBetween, cleared_between};
 ghost use Rattle.pc_presentation.specs.Tailed.{Element, IsElement, one_of, with_state};
 
 use crate::pcp::Pcp;
@@ -59,6 +59,20 @@ impl Elem {
         ensures { result.now ≡ self.now.state.exponents }
     {
         self.exponents.as_slice()
+    }
+
+    /// The exponents after generator i and before generator z, both counted from 1, at their places, which count from 0. Those
+    /// at other places are 0.
+    pub fn exponents_between(&self, i: u16, z: u16) -> [u8; RANK]
+        requires after { i < z }
+        requires in_range { z ≤ length self.now.state.exponents + 1 }
+        ensures { AreBetween i (z - 1) self.now.state.exponents result }
+    {
+        let mut part = [0; RANK];
+        for k in i as usize..z as usize - 1 {
+            part[k] = self.exponents[k];
+        }
+        part
     }
 
     /// The row over the tails.

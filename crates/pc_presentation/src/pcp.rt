@@ -1,6 +1,6 @@
 //! Presentations, with weights and tails.
 
-ghost use Rattle.std.specs.Prelude.{◌≡◌, ◌≤◌, ◌+◌, ◌-◌, ℕ, List, get_or, length, IfOk, OnOk, OnErr};
+ghost use Rattle.std.specs.Prelude.{◌≡◌, ◌≤◌, ◌+◌, ◌-◌, ◌↔◌, ℕ, List, get_or, length, IsTrue, IfOk, OnOk, OnErr};
 ghost use Rattle.pq_base.specs.Limits.{max_rank};
 ghost use Rattle.pq_base.specs.Prime.{prime_value};
 ghost use Rattle.pc_presentation.specs.Syllable.{syllables_of, AreSyllables};
@@ -99,6 +99,15 @@ impl Pcp {
         ensures { result ≡ tail_of self.now r }
     {
         self.relations.tail(r.number(self.weights.len()))
+    }
+
+    /// Whether a relation has an empty right side and no tail.
+    pub fn is_bare(&self, r: Relation) -> bool
+        requires { IsRelation self.now.presentation.rank r }
+        ensures { IsTrue result ↔ IsBareRelation self.now r }
+    {
+        let _presentation = self.rank();
+        self.word(r).is_empty() && self.tail(r).is_none()
     }
 
     /// The first number after generator i, counted from 1, from which on each generator commutes with each that is before it

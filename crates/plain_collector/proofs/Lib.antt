@@ -1,5 +1,3 @@
 pub mod Progress
-pub mod AddedTails
-pub mod SavedEntries
-pub mod EmptySides
-pub mod Shortcuts
+pub mod EmptyPasses
+pub mod CopiesBehind

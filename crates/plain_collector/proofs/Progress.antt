@@ -1,33 +1,18 @@
 -- How far loops of pushes have come: what is left to push after a step, pushed on the new element, is what was left before
 -- it, pushed on the old one.
-use Rattle.std.proofs.Common.{◌≡◌, ℕ, suc, ◌+◌, ◌-◌, ◌<◌, ◌≤◌, List, get_or, length, replicate, take, drop, ap, sym, ◌∙◌, arith}
+use Rattle.std.proofs.Common.{◌≡◌, ℕ, ◌-◌, ◌<◌, ◌≤◌, List, length, take, drop, ap, sym, ◌∙◌, arith}
 use Rattle.std.proofs.Math.ListN.{drop_of_length-le}
-use Rattle.std.proofs.lemmas.List.{drop_more, drop-take, length-take-le}
-use Rattle.pc_presentation.specs.declared.syllable.Syllable.{Syllable}
+use Rattle.std.proofs.lemmas.List.{length-take-le}
 use Rattle.pc_presentation.specs.declared.relation.Relation.TheVariants.{Commutator}
 use Rattle.pc_presentation.specs.Pcp.{TailedPresentation, IsTailedPresentation}
-use Rattle.pc_presentation.specs.Rowed.{RowedPresentation, IsRowed}
-use Rattle.pc_presentation.specs.Collection.{Configuration, State, spelled, add_row, push_word, push_configuration, plain_push}
+use Rattle.pc_presentation.specs.Rowed.{RowedPresentation}
+use Rattle.pc_presentation.specs.Collection.{Configuration, spelled, add_row, push_configuration, plain_push}
 use Rattle.pc_presentation.specs.PushSteps.{raised, passed}
 use Rattle.pc_presentation.specs.Commuting.{IsFirstCommuting, cleared_between}
-use Rattle.pc_presentation.specs.Tailed.{Element, rowed_presentation, IsElement, with_state, places_of, side_with_tail}
-use Rattle.pc_presentation.proofs.collecting.PushLaws.{push_word-append}
+use Rattle.pc_presentation.specs.Tailed.{Element, rowed_presentation, IsElement, with_state, side_with_tail}
 use Rattle.pc_presentation.proofs.presentations.RelationSides.{commutator_side-numbered}
-use Rattle.pc_presentation.proofs.quotients.TailedLaws.{rowed_presentation-is}
 use Rattle.pc_presentation.proofs.quotients.PushesLeft.{after}
-use Rattle.pc_presentation.proofs.commuting.ShortcutLaws.{commuting_letters_stay}
-
-pub syllables-left : (f : State → ℕ → State) (e e' : Element) (k : ℕ) (w : List Syllable) (d : Syllable) → k < length w
-    → e' ≡ after f e (replicate (get_or w k d).exponent ((get_or w k d).generator - 1))
-    → after f e' (places_of (drop (k + 1) w)) ≡ after f e (places_of (drop k w))
-syllables-left f e e' k w d h q =
-    let s : Syllable = get_or w k d in
-    ap (λ (z : Element). after f z (places_of (drop (k + 1) w))) q
-    ∙ ap (with_state e) (sym (push_word-append f e.state (replicate s.exponent (s.generator - 1)) (places_of (drop (k + 1) w))))
-    ∙ ap (λ (v : List Syllable). after f e (places_of v)) (sym (drop_more w k d h))
-
-pub no_syllables-left : (f : State → ℕ → State) (e : Element) (k : ℕ) (w : List Syllable) → length w ≤ k → after f e (places_of (drop k w)) ≡ e
-no_syllables-left f e k w h = ap (λ (v : List Syllable). after f e (places_of v)) (drop_of_length-le w h)
+use Rattle.pc_presentation.proofs.commuting.Shortcuts.{commuting_letters_stay-numbered}
 
 -- the letters of an element, and its row
 pub side-pushed : (T : TailedPresentation) (e m e' : Element) (c : Configuration) → m ≡ after (plain_push (rowed_presentation T)) e c.word
@@ -58,22 +43,12 @@ pub push-made : (T : TailedPresentation) (e c r e' : Element) (g z j : ℕ) → 
     → e' ≡ with_state e (plain_push (rowed_presentation T) e.state (g - 1))
 push-made T e c r e' g z j h one last first p q w past =
     let Y : RowedPresentation = rowed_presentation T in
-    let rowed : IsRowed (rowed_presentation T) = rowed_presentation-is T h.presentation in
     let xs : List ℕ = take z e.state.exponents in
     let count : length e.state.exponents ≡ T.presentation.rank = h.state.exponents.count in
-    let after_g : g - 1 < z = first.after in
     let within : z ≤ T.presentation.rank = first.within in
     let long : length (take z e.state.exponents) ≡ z = length-take-le z e.state.exponents (omega arith) in
-    let cleared : State = record { exponents = cleared_between (g - 1) z e.state.exponents; row = e.state.row } in
-    let a : suc (g - 1) ≡ g = omega arith in
-    let far : suc (g - 1) + (z - suc (g - 1)) ≡ z = omega arith in
-    let letters : take (z - suc (g - 1)) (drop (suc (g - 1)) e.state.exponents) ≡ drop (suc (g - 1)) (take z e.state.exponents) =
-    sym (drop-take (suc (g - 1)) (z - suc (g - 1)) e.state.exponents) ∙ ap (λ (m : ℕ). drop (suc (g - 1)) (take m e.state.exponents)) far in
     sym (ap (λ (v : List ℕ). after (passed Y (g - 1)) e' (spelled j v)) (drop_of_length-le xs (omega arith)))
     ∙ w
     ∙ ap (λ (y : Element). after (passed Y (g - 1)) y (spelled g (drop g xs)))
     (q ∙ ap (λ (y : Element). with_state y (raised Y y.state (g - 1))) p)
-    ∙ ap (with_state e)
-    (sym (commuting_letters_stay Y e.state (g - 1) z rowed h.state (omega arith) after_g within first.commute
-    ∙ ap (λ (v : List ℕ). push_word (passed Y (g - 1)) (raised Y cleared (g - 1)) (spelled (suc (g - 1)) v)) letters
-    ∙ ap (λ (k : ℕ). push_word (passed Y (g - 1)) (raised Y cleared (g - 1)) (spelled k (drop k xs))) a))
+    ∙ ap (with_state e) (commuting_letters_stay-numbered T e h g z one last first)

@@ -3,10 +3,9 @@
 //! recurs on later generators alone, so that it is never deeper than the rank; it takes no memory and copies no word.
 #![tactic(auto)]
 
-mod commuting;
 pub mod laws;
 pub mod plain;
 mod steps;
-mod tails;
+mod zeros;
 
 pub use plain::Plain;

@@ -1,8 +1,7 @@
 //! The collector.
 
 use crate::steps::{push, push_times};
-use crate::tails::add_tail;
-use pc_presentation::{Collect, Elem, Pcp, Syllable};
+use pc_presentation::{Collect, Elem, Pcp, Syllable, add_tail};
 use pq_base::NoMemory;
 use std::alloc::Global;
 

@@ -1,17 +1,14 @@
 //! Pushes by the plain rule, on an element in place. What commutes stays in place, and copies are pushed together, where
 //! that gives exactly what the plain rule gives.
 
-ghost use Rattle.std.specs.Prelude.{◌≡◌, ◌≤◌, ◌<◌, ◌-◌, ◌+◌, ℕ, get_or, length, replicate};
-ghost use Rattle.pq_base.specs.Limits.{max_rank};
+ghost use Rattle.std.specs.Prelude.{◌≡◌, ◌≤◌, ◌<◌, ◌-◌, ◌+◌, ℕ, get_or, replicate};
 ghost use Rattle.pc_presentation.specs.Relation.{IsRelation};
 ghost use Rattle.pc_presentation.specs.Collection.{push_word, push_configuration, plain_push};
 ghost use Rattle.pc_presentation.specs.PushSteps.{with_exponent, raised, passed};
 ghost use Rattle.pc_presentation.specs.Tailed.{rowed_presentation, IsElement, with_state, side_with_tail};
 
-use crate::commuting::{are_zero, commutes_with_later};
-use crate::tails::{add_tail, add_tail_times};
-use pc_presentation::{Elem, Pcp, Relation};
-use pq_base::limits::RANK;
+use crate::zeros::are_zero;
+use pc_presentation::{Elem, Pcp, Relation, add_tail, add_tail_times, commutes_with_later};
 
 /// Pushes a generator, counted from 1. The letters from which on all commute stay in place.
 #[cycle(plain)]
@@ -23,7 +20,7 @@ pub(crate) fn push(pcp: &Pcp, at: &mut Elem, generator: u16)
     ensures pushed { at.new ≡ with_state at.old (plain_push (rowed_presentation pcp.now) at.old.state (generator - 1)) }
 {
     let commuting = pcp.commuting_from(generator);
-    let later = saved(at.exponents(), generator, commuting - 1);
+    let later = at.exponents_between(generator, commuting);
     at.clear_between(generator, commuting);
     raise(pcp, at, generator);
     for j in generator..commuting - 1 {
@@ -190,17 +187,4 @@ fn push_each(pcp: &Pcp, at: &mut Elem, generator: u16, times: u8)
     for _ in 0..times {
         push(pcp, at, generator);
     }
-}
-
-/// The entries from place `start` on and before place `end`, at these places. Places count from 0.
-fn saved(exponents: &[u8], start: u16, end: u16) -> [u8; RANK]
-    requires order { end ≤ length exponents.now }
-    requires limit { length exponents.now ≤ max_rank }
-    ensures { (k : ℕ) → start ≤ k → k < end → get_or result k 0 ≡ get_or exponents.now k 0 }
-{
-    let mut copy = [0; RANK];
-    for k in start as usize..end as usize {
-        copy[k] = exponents[k];
-    }
-    copy
 }

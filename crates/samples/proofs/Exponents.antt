@@ -4,6 +4,7 @@ use Rattle.std.proofs.lemmas.List.Sums.{sum_by-cons, sum_by_more}
 use Rattle.pq_base.specs.Answer.{Answer, IsAnswer, AreNormal}
 use Rattle.pc_presentation.specs.declared.syllable.Syllable.{Syllable}
 use Rattle.pc_presentation.specs.Syllable.{syllable, syllables_of}
+use Rattle.pc_presentation.proofs.presentations.SyllableLaws.{length-syllables_of}
 use Rattle.samples.specs.Summary.{exponent_sum}
 
 pub sum_by-syllables_of : (k : ℕ) (e : List ℕ) → sum_by (λ (s : Syllable). s.exponent) (syllables_of k e) ≡ sum e
@@ -12,11 +13,6 @@ sum_by-syllables_of k (zero ∷ es) = omega (arith, sum_by-syllables_of (suc k) 
 sum_by-syllables_of k (suc e ∷ es) =
     let both = sum_by-cons (λ (s : Syllable). s.exponent) (syllable (suc k) (suc e)) (syllables_of (suc k) es) in
     omega (arith, sum_by-syllables_of (suc k) es, both, sum_by-cons (λ (x : ℕ). x) (suc e) es)
-
-pub length-syllables_of : (k : ℕ) (e : List ℕ) → length (syllables_of k e) ≤ length e
-length-syllables_of k [] = omega arith
-length-syllables_of k (zero ∷ es) = let rest = length-syllables_of (suc k) es in omega arith
-length-syllables_of k (suc e ∷ es) = let rest = length-syllables_of (suc k) es in omega arith
 
 length-normal : (p n i : ℕ) (es : List (List ℕ)) → AreNormal p n es → length (get_or es i []) ≤ n
 length-normal p n i [] normal = omega arith

@@ -1,23 +1,21 @@
 -- A push that is begun: the letters before the place from which on all commute are set aside and cleared, the generator's
 -- exponent is raised, and what its frame owes then gives what the push gives.
-use Rattle.std.proofs.Common.{◌≡◌, ℕ, suc, ◌+◌, ◌-◌, ◌<◌, ◌≤◌, Bool, List, get_or, length, take, drop, ap, sym, ◌∙◌, arith, eq-eqb}
-use Rattle.std.proofs.lemmas.List.{drop-take}
-use Rattle.pq_base.specs.Limits.{max_rank}
+use Rattle.std.proofs.Common.{◌≡◌, ℕ, suc, ◌-◌, ◌≤◌, Bool, List, get_or, length, take, drop, ap, sym, ◌∙◌, arith, eq-eqb}
 use Rattle.pc_presentation.specs.declared.relation.Relation.TheVariants.{Power}
 use Rattle.pc_presentation.specs.Pcp.{TailedPresentation, right_side, tail_of, row_of}
-use Rattle.pc_presentation.specs.Rowed.{RowedPresentation, IsRowed}
+use Rattle.pc_presentation.specs.Rowed.{RowedPresentation}
 use Rattle.pc_presentation.specs.Collection.{Configuration, State, spelled, add_row, push_word, push_configuration, plain_push}
 use Rattle.pc_presentation.specs.PushSteps.{with_exponent, raised_by, raised, passed}
-use Rattle.pc_presentation.specs.Commuting.{IsFirstCommuting, cleared_between}
+use Rattle.pc_presentation.specs.Commuting.{IsFirstCommuting, AreBetween, cleared_between}
 use Rattle.pc_presentation.specs.Tailed.{Element, rowed_presentation, IsElement, with_state, side_with_tail, places_of}
 use Rattle.pc_presentation.proofs.collecting.PushLaws.{push_word-add_row}
 use Rattle.pc_presentation.proofs.collecting.PlainRule.{plain-rides}
 use Rattle.pc_presentation.proofs.presentations.RelationSides.{power_side-numbered}
-use Rattle.pc_presentation.proofs.quotients.TailedLaws.{rowed_presentation-is, places_of-syllables_of}
-use Rattle.pc_presentation.proofs.commuting.ShortcutLaws.{commuting_letters_stay}
+use Rattle.pc_presentation.proofs.quotients.TailedLaws.{places_of-syllables_of}
+use Rattle.pc_presentation.proofs.commuting.Shortcuts.{commuting_letters_stay-numbered}
+use Rattle.pc_presentation.proofs.commuting.ExponentsBetween.{between-parts}
 use Rattle.stack_collector.specs.declared.frame.Frame.{Frame}
 use Rattle.stack_collector.specs.Frames.{side_word, pushed, finished}
-use Rattle.stack_collector.proofs.SavedEntries.{AreSaved, saved-between}
 
 -- where the exponent becomes the prime, the row of the power is added, and its word is to be pushed
 pub raised-past : (T : TailedPresentation) (e m e' : Element) (g : ℕ) → IsElement T e → 1 ≤ g → g ≤ T.presentation.rank
@@ -52,28 +50,18 @@ begun_frame g z place later = record {
 
 module _ (T : TailedPresentation) (e : Element) (h : IsElement T e) (g z place : ℕ) (later : List ℕ) (one : 1 ≤ g) (last : g ≤ T.presentation.rank)
     (first : IsFirstCommuting (rowed_presentation T) (g - 1) z) where
-  pub begun-pushes : (c r : Element) → length later ≡ max_rank → AreSaved later e.state.exponents g z
+  pub begun-pushes : (c r : Element) → AreBetween g z e.state.exponents later
       → c ≡ with_state e (record { exponents = cleared_between (g - 1) z e.state.exponents; row = e.state.row })
       → pushed T r (places_of (drop place (side_word T (Power g)))) ≡ with_state c (raised (rowed_presentation T) c.state (g - 1))
       → finished T (begun_frame g z place later) r ≡ with_state e (plain_push (rowed_presentation T) e.state (g - 1))
-  begun-pushes c r saved same p q =
+  begun-pushes c r between p q =
       let Y : RowedPresentation = rowed_presentation T in
-      let rowed : IsRowed (rowed_presentation T) = rowed_presentation-is T h.presentation in
-      let xs : List ℕ = e.state.exponents in
       let count : length e.state.exponents ≡ T.presentation.rank = h.state.exponents.count in
       let limit = h.presentation.rank_limit in
-      let after_g : g - 1 < z = first.after in
       let within : z ≤ T.presentation.rank = first.within in
       let cleared : State = record { exponents = cleared_between (g - 1) z e.state.exponents; row = e.state.row } in
-      let a : suc (g - 1) ≡ g = omega arith in
-      let far : suc (g - 1) + (z - suc (g - 1)) ≡ z = omega arith in
-      let letters : take (z - suc (g - 1)) (drop (suc (g - 1)) e.state.exponents) ≡ drop (suc (g - 1)) (take z e.state.exponents) =
-      sym (drop-take (suc (g - 1)) (z - suc (g - 1)) e.state.exponents) ∙ ap (λ (m : ℕ). drop (suc (g - 1)) (take m e.state.exponents)) far in
       let pass : Element → List ℕ → Element = λ y v. with_state y (push_word (passed Y (g - 1)) y.state (spelled g v)) in
       ap (λ (y : Element). pass y (drop g (take z later))) q
       ∙ ap (λ (y : Element). pass (with_state y (raised Y y.state (g - 1))) (drop g (take z later))) p
-      ∙ ap (pass (with_state e (raised Y cleared (g - 1)))) (saved-between later xs g z (omega arith) (omega arith) same)
-      ∙ ap (with_state e)
-      (sym (commuting_letters_stay Y e.state (g - 1) z rowed h.state (omega arith) after_g within first.commute
-      ∙ ap (λ (v : List ℕ). push_word (passed Y (g - 1)) (raised Y cleared (g - 1)) (spelled (suc (g - 1)) v)) letters
-      ∙ ap (λ (k : ℕ). push_word (passed Y (g - 1)) (raised Y cleared (g - 1)) (spelled k (drop k (take z xs)))) a))
+      ∙ ap (pass (with_state e (raised Y cleared (g - 1)))) (between-parts g z e.state.exponents later (omega arith) (omega arith) between)
+      ∙ ap (with_state e) (commuting_letters_stay-numbered T e h g z one last first)

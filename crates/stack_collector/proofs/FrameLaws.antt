@@ -13,6 +13,7 @@ use Rattle.pc_presentation.specs.Collection.{State, spelled, push_word, plain_pu
 use Rattle.pc_presentation.specs.PushSteps.{passed}
 use Rattle.pc_presentation.specs.Tailed.{Element, rowed_presentation, IsElement, with_state, places_of}
 use Rattle.pc_presentation.proofs.collecting.PushLaws.{push_word-append}
+use Rattle.pc_presentation.proofs.presentations.SyllableLaws.{length-syllables_of}
 use Rattle.pc_presentation.proofs.presentations.RelationSides.{right_side-count, side-generators, side-later}
 use Rattle.stack_collector.specs.declared.frame.Frame.{Frame}
 use Rattle.stack_collector.specs.Frames.{side_word, pushed, letters_owed, letters_to_pass, IsFrame, effort}
@@ -21,11 +22,6 @@ use Rattle.stack_collector.specs.FrameSteps.{GoesOn, IsWithin, IsPush}
 -- an element with letters passed on it by the generator with number g
 abbrev pub passing : TailedPresentation → ℕ → List ℕ → Element → Element
 passing T g v e = with_state e (push_word (passed (rowed_presentation T) (g - 1)) e.state v)
-
-length-syllables_of : (k : ℕ) (e : List ℕ) → length (syllables_of k e) ≤ length e
-length-syllables_of k [] = omega arith
-length-syllables_of k (zero ∷ es) = let rest = length-syllables_of (suc k) es in omega arith
-length-syllables_of k (suc e ∷ es) = let rest = length-syllables_of (suc k) es in omega arith
 
 pub length-side_word : (T : TailedPresentation) → IsTailedPresentation T → (r : Relation) → IsRelation T.presentation.rank r → length (side_word T r) ≤ 100
 length-side_word T is r h =

@@ -1,9 +1,4 @@
-pub mod AddedTails
-pub mod SavedEntries
-pub mod EmptySides
-pub mod Shortcuts
 pub mod Begun
 pub mod FrameLaws
 pub mod Passes
 pub mod StackLaws
-pub mod WordsLeft

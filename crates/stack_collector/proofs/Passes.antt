@@ -16,10 +16,10 @@ use Rattle.pc_presentation.proofs.quotients.TailedLaws.{places_of-syllables_of}
 use Rattle.pc_presentation.proofs.collecting.PushLaws.{push_word-append, push_word-add_row}
 use Rattle.pc_presentation.proofs.collecting.PlainRule.{plain-rides}
 use Rattle.stack_collector.specs.declared.frame.Frame.{Frame}
-use Rattle.stack_collector.specs.AddedRows.{add_row_times}
+use Rattle.pc_presentation.specs.AddedRows.{add_row_times}
 use Rattle.stack_collector.specs.Frames.{side_word, pushed, letters_owed, letters_to_pass, IsFrame}
 use Rattle.stack_collector.specs.FrameSteps.{IsWithin}
-use Rattle.stack_collector.proofs.EmptySides.{no_syllables}
+use Rattle.pc_presentation.proofs.commuting.EmptySides.{no_syllables}
 use Rattle.stack_collector.proofs.FrameLaws.{passing, length-side_word}
 
 module _ (Y : RowedPresentation) (j i : ℕ) (c : Configuration)

@@ -1,4 +1,3 @@
-pub mod AddedRows
 pub mod Frames
 pub mod FrameSteps
 pub mod Stacks

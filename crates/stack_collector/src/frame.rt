@@ -1,7 +1,6 @@
 //! Frames: what a push that was begun still owes.
 
-ghost use Rattle.std.specs.Prelude.{◌≡◌, ◌≤◌, ◌<◌, ◌-◌, ℕ, get_or, length, replicate};
-ghost use Rattle.pq_base.specs.Limits.{max_rank};
+ghost use Rattle.std.specs.Prelude.{◌≡◌, ◌≤◌, ◌<◌, ◌-◌, length, replicate};
 ghost use Rattle.pc_presentation.specs.Pcp.{IsTailedPresentation};
 ghost use Rattle.pc_presentation.specs.Collection.{plain_push};
 ghost use Rattle.pc_presentation.specs.Tailed.{rowed_presentation, Element};
@@ -80,18 +79,4 @@ impl Frame {
         self.times = self.later[self.next as usize];
         self.next += 1;
     }
-}
-
-/// The entries from place `start` on and before place `end`, at these places. Places count from 0.
-pub(crate) fn saved(exponents: &[u8], start: u16, end: u16) -> [u8; RANK]
-    requires order { end ≤ length exponents.now }
-    requires limit { length exponents.now ≤ max_rank }
-    ensures count { length result ≡ max_rank }
-    ensures entries { (k : ℕ) → start ≤ k → k < end → get_or result k 0 ≡ get_or exponents.now k 0 }
-{
-    let mut copy = [0; RANK];
-    for k in start as usize..end as usize {
-        copy[k] = exponents[k];
-    }
-    copy
 }

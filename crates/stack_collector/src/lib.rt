@@ -4,11 +4,9 @@
 //! frames than generators and one. Room for them is reserved at first: a push takes no memory and copies no word.
 #![tactic(auto)]
 
-mod commuting;
 mod frame;
 pub mod laws;
 pub mod stack;
 mod steps;
-mod tails;
 
 pub use stack::Stack;

@@ -8,8 +8,7 @@ ghost use Rattle.stack_collector.specs.Stacks.{IsReady, IsRunning, Continues, Ha
 
 use crate::frame::Frame;
 use crate::steps::{Progress, begin, step};
-use crate::tails::add_tail;
-use pc_presentation::{Collect, Elem, Pcp, Syllable};
+use pc_presentation::{Collect, Elem, Pcp, Syllable, add_tail};
 use pq_base::NoMemory;
 use std::alloc::Global;
 use std::marker::Model;

@@ -10,10 +10,8 @@ ghost use Rattle.pc_presentation.specs.Tailed.{rowed_presentation, IsElement, wi
 ghost use Rattle.stack_collector.specs.Frames.{side_word, pushed, finished, IsFrame};
 ghost use Rattle.stack_collector.specs.FrameSteps.{IsWithin, IsStep};
 
-use crate::commuting::commutes_with_later;
-use crate::frame::{Frame, saved};
-use crate::tails::{add_tail, add_tail_times};
-use pc_presentation::{Elem, Pcp, Relation};
+use crate::frame::Frame;
+use pc_presentation::{Elem, Pcp, Relation, add_tail, add_tail_times, commutes_with_later};
 
 /// What a step of a frame comes to.
 #[derive(Clone, Copy, Debug)]
@@ -38,9 +36,9 @@ pub(crate) fn begin(pcp: &Pcp, at: &mut Elem, generator: u16) -> Frame
     ensures pushed { finished pcp.now result at.new
         ≡ with_state at.old (plain_push (rowed_presentation pcp.now) at.old.state (generator - 1)) }
 {
-    let end = pcp.commuting_from(generator) - 1;
-    let later = saved(at.exponents(), generator, end);
-    at.clear_between(generator, end + 1);
+    let commuting = pcp.commuting_from(generator);
+    let later = at.exponents_between(generator, commuting);
+    at.clear_between(generator, commuting);
     let place = raise(pcp, at, generator);
     Frame {
         generator,
@@ -51,7 +49,7 @@ pub(crate) fn begin(pcp: &Pcp, at: &mut Elem, generator: u16) -> Frame
         next: generator,
         times: 0,
         later,
-        end,
+        end: commuting - 1,
     }
 }
 

@@ -1,12 +1,9 @@
 -- Where the relations act, the states are a group.
-use Rattle.std.proofs.Common.{◌≡◌, ℕ, zero, suc, ◌+◌, ◌-◌, ◌%◌, ◌<◌, List, [], ◌∷◌, length, replicate, refl, ap, sym, ◌∙◌, subst, arith, inl, inr}
-use Rattle.std.proofs.Math.Nat.{mod_self, add-mod-mod}
+use Rattle.std.proofs.Common.{◌≡◌, ℕ, zero, suc, ◌+◌, ◌-◌, ◌<◌, List, [], ◌∷◌, length, replicate, refl, ap, sym, ◌∙◌, subst, arith, inl, inr}
 use Rattle.std.proofs.lemmas.Bool.{cases_lt}
-use Rattle.pq_base.specs.Table.{AllBelow}
-use Rattle.pq_base.specs.Presentation.{IsNormal}
 use Rattle.pq_base.proofs.groups.Groups.{Group}
 use Rattle.fp_rows.specs.Rows.{negative_row}
-use Rattle.pc_presentation.specs.Rowed.{RowedPresentation, IsRowed, row_sum}
+use Rattle.pc_presentation.specs.Rowed.{RowedPresentation, IsRowed}
 use Rattle.pc_presentation.specs.Collection.{State, IsState, identity, spelled, add_row, before, push_word, push_configuration, configuration_of}
 use Rattle.pc_presentation.proofs.rows.RowLaws.{identity-state, before-state, is_before, negative_row-normal, row_sum-negative_row}
 use Rattle.pc_presentation.proofs.collecting.PushLaws.{push_word-append}

@@ -1,9 +1,7 @@
 -- The table of a consistent presentation has exactly the class of the presentation.
-use Rattle.std.proofs.Common.{◌<◌, ℕ, zero, suc, ℤ, List, [], ◌∙◌, arith}
-use Rattle.pq_base.specs.SignedWord.{HasLetters}
+use Rattle.std.proofs.Common.{◌<◌, ℕ, [], ◌∙◌, arith}
 use Rattle.pq_base.specs.Table.{value}
-use Rattle.pq_base.specs.Presentation.{Presentation, normal_word}
-use Rattle.pq_base.specs.Series.{InSeries}
+use Rattle.pq_base.specs.Presentation.{normal_word}
 use Rattle.pq_base.specs.Largest.{HasValue}
 use Rattle.pq_base.proofs.words.LetterLaws.{HasLetters-normal_word}
 use Rattle.pq_base.proofs.CarryLaws.{level-value, table_class-generated}

@@ -12,6 +12,11 @@ pub length-spread : (n k : ℕ) (w : List Syllable) → length (spread n k w) �
 length-spread zero k w = refl
 length-spread (suc n) k w = ap suc (length-spread n (suc k) (after_first k w))
 
+pub length-syllables_of : (k : ℕ) (e : List ℕ) → length (syllables_of k e) ≤ length e
+length-syllables_of k [] = omega arith
+length-syllables_of k (zero ∷ es) = let rest = length-syllables_of (suc k) es in omega arith
+length-syllables_of k (suc e ∷ es) = let rest = length-syllables_of (suc k) es in omega arith
+
 -- a word whose first generator isn't before place k
 abbrev pub StartsFrom : ℕ → List Syllable → Type 0
 StartsFrom k [] = Unit {0}

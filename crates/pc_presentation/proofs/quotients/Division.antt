@@ -1,8 +1,7 @@
 -- Dividing in place: exponent after exponent is replaced by how often its generator has to be pushed, so that the pushes
 -- so far give the exponents so far of the dividend; the row of what they reach is subtracted at the end.
-use Rattle.std.proofs.Common.{◌≡◌, ◌≢◌, ℕ, zero, suc, ◌+◌, ◌-◌, ◌*◌, ◌%◌, ◌<◌, ◌≤◌, List, [], ◌∷◌, ◌++◌, get_or, length, replicate, take, append_assoc, refl, ap, ap₂, sym, ◌∙◌, subst, arith, inl, inr}
+use Rattle.std.proofs.Common.{◌≡◌, ◌≢◌, ℕ, suc, ◌+◌, ◌-◌, ◌%◌, ◌<◌, ◌≤◌, List, [], ◌∷◌, ◌++◌, get_or, length, replicate, take, append_assoc, refl, ap, ap₂, sym, ◌∙◌, subst, arith, inl, inr}
 use Rattle.std.proofs.Math.ListN.{set}
-use Rattle.std.proofs.Math.Nat.{mul-zero, mul-suc, mul_comm, mod_self, zero-mod, add-mul-mod_self_right}
 use Rattle.std.proofs.lemmas.List.{append-nil, length-take-le, take_all, take_more_set, get_or-set_other}
 use Rattle.std.proofs.lemmas.Bool.{cases_lt}
 use Rattle.pq_base.specs.Table.{AllBelow}

@@ -1,6 +1,6 @@
 -- In the flat reading of a presentation with rows the word of a row commutes with every word over the generators and the
 -- tails, multiples of rows are powers of their words, and the inverse is the word of the negative row.
-use Rattle.std.proofs.Common.{◌≡◌, ℕ, zero, suc, ◌+◌, ◌-◌, ◌%◌, ◌<◌, ℤ, List, [], ◌∷◌, ◌++◌, length, replicate, refl, ap, sym, ◌∙◌, subst, arith, inl, inr}
+use Rattle.std.proofs.Common.{◌≡◌, ℕ, zero, suc, ◌+◌, ◌-◌, ◌%◌, ◌<◌, ℤ, List, [], ◌∷◌, ◌++◌, length, refl, ap, sym, ◌∙◌, subst, arith, inl, inr}
 use Rattle.std.proofs.lemmas.List.{append-nil}
 use Rattle.std.proofs.lemmas.Bool.{cases_lt}
 use Rattle.fp_rows.specs.Rows.{add_rows, scale_row, negative_row}
@@ -9,7 +9,6 @@ use Rattle.pq_base.specs.SignedWord.{inv, copies, HasLetters}
 use Rattle.pq_base.specs.Presentation.{IsNormal, letter, word_from}
 use Rattle.pq_base.specs.Joined.{Joined}
 use Rattle.pq_base.specs.Canonical.{unit}
-use Rattle.pq_base.specs.Elementary.{zeros}
 use Rattle.pq_base.proofs.words.WordLaws.{word_from-zeros}
 use Rattle.pq_base.proofs.UnitLaws.{length-unit, word_from-unit}
 use Rattle.pq_base.proofs.words.JoinedLaws.{joined-from_equal, joined-sym, joined-trans, joined-append_left, joined-solve_right}

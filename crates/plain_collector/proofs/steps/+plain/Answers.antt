@@ -6,15 +6,17 @@ use Rattle.pc_presentation.specs.Relation.{IsTail, side_start}
 use Rattle.pc_presentation.specs.Pcp.{right_side, row_of}
 use Rattle.pc_presentation.specs.Collection.{add_row, plain_push}
 use Rattle.pc_presentation.specs.PushSteps.{passed}
+use Rattle.pc_presentation.specs.AddedRows.{add_row_times}
 use Rattle.pc_presentation.specs.Tailed.{Element, rowed_presentation, IsElement, with_state, side_with_tail, places_of}
 use Rattle.pc_presentation.proofs.quotients.TailedLaws.{places_of-syllables_of}
 use Rattle.pc_presentation.proofs.quotients.ElementConditions.{exponent-below_prime, set-element, prime-positive}
-use Rattle.pc_presentation.proofs.quotients.PushesLeft.{after, copies-left, spelled-left}
+use Rattle.pc_presentation.proofs.quotients.PushesLeft.{after, copies-left, spelled-left, syllables-left, no_syllables-left}
+use Rattle.pc_presentation.proofs.commuting.EmptySides.{side-empty}
+use Rattle.pc_presentation.proofs.commuting.Shortcuts.{cleared_between-element, copies-added, copies-wrapped}
 use Rattle.pc_presentation.proofs.presentations.RelationSides.{side-generators, side-later}
-use Rattle.plain_collector.specs.AddedRows.{add_row_times}
-use Rattle.plain_collector.proofs.EmptySides.{side-empty, passed-together}
-use Rattle.plain_collector.proofs.Shortcuts.{cleared_between-element, copies-added, copies-wrapped, copies-behind}
-use Rattle.plain_collector.proofs.Progress.{syllables-left, no_syllables-left, side-pushed, pass-step, push-made}
+use Rattle.plain_collector.proofs.EmptyPasses.{passed-together}
+use Rattle.plain_collector.proofs.CopiesBehind.{copies-behind}
+use Rattle.plain_collector.proofs.Progress.{side-pushed, pass-step, push-made}
 use Rattle.plain_collector.proofs.steps.+plain.Goals as goal
 
 -- a push
@@ -40,12 +42,12 @@ push-loop-j-preserved t c =
     let start = c.loop-j.auto.j in
     let long = length-take-le (c.commuting_from-commuting.result - 1) c.args.at.now.state.exponents (omega arith) in
     let inside : c.loop-j.j < length (take (c.commuting_from-commuting.result - 1) c.args.at.now.state.exponents) = omega arith in
-    let entry = c.loop-j.invariant.1 c.loop-j.j (omega arith) (omega arith)
+    let entry = c.loop-j.invariant.1.same c.loop-j.j (omega arith) (omega arith)
     ∙ sym (get_or-take (c.commuting_from-commuting.result - 1) c.args.at.now.state.exponents c.loop-j.j 0 (omega arith)) in (
       c.pass.ensures.element,
       c.loop-j.invariant.1,
       spelled-left (passed (rowed_presentation T) (c.args.generator - 1)) c.loop-j.at c.pass.new.at c.loop-j.j
-          (get_or c.saved-later.result c.loop-j.j 0) (take (c.commuting_from-commuting.result - 1) c.args.at.now.state.exponents) inside entry c.pass.ensures.passed
+          (get_or c.exponents_between-later.result c.loop-j.j 0) (take (c.commuting_from-commuting.result - 1) c.args.at.now.state.exponents) inside entry c.pass.ensures.passed
           ∙ c.loop-j.invariant.2,
     )
 
@@ -214,7 +216,7 @@ push_copies-returns-then-commutes_with_later-clause-pushed t c =
     let room = c.if-times-value.true in
     let is = c.exponent-exponent.ensures in
     copies-added c.args.pcp.now c.args.at.now c.requires.element c.args.generator c.args.times c.requires.from_one c.requires.in_range
-    (c.exponent-exponent.result + c.args.times) c.set_exponent.new.self (c.commutes_with_later.ensures c.if-commutes_with_later.true)
+    (c.exponent-exponent.result + c.args.times) c.set_exponent.new.self (c.commutes_with_later.ensures.0 c.if-commutes_with_later.true)
     (omega arith) (omega arith) c.set_exponent.ensures
 
 -- past the prime
@@ -234,7 +236,7 @@ push_past_prime-returns-then-commutes_with_later-clause-pushed t c =
     let zeros = side-empty T c.requires.element.presentation (Power c.args.generator) c.word.result.now (c.requires.from_one, c.requires.in_range) c.word.ensures
     (grind (arith, c.is_empty.ensures, c.if-is_empty.true)) in
     copies-wrapped T c.args.at.now c.requires.element c.args.generator c.args.times c.requires.from_one c.requires.in_range
-    c.args.rest c.requires.total c.requires.rest c.set_exponent.new.self c.add_tail.new.at (c.commutes_with_later.ensures c.if-commutes_with_later.true)
+    c.args.rest c.requires.total c.requires.rest c.set_exponent.new.self c.add_tail.new.at (c.commutes_with_later.ensures.0 c.if-commutes_with_later.true)
     zeros c.set_exponent.ensures
     (c.add_tail.ensures.added
     ∙ ap (λ (x : Option ℕ). with_state c.set_exponent.new.self

@@ -5,9 +5,9 @@ use Rattle.pc_presentation.specs.Relation.{side_start}
 use Rattle.pc_presentation.specs.Pcp.{right_side}
 use Rattle.pc_presentation.specs.Collection.{spelled, plain_push}
 use Rattle.pc_presentation.specs.PushSteps.{passed}
+use Rattle.pc_presentation.specs.Commuting.{AreBetween}
 use Rattle.pc_presentation.specs.Tailed.{rowed_presentation, IsElement, places_of}
 use Rattle.pc_presentation.proofs.quotients.PushesLeft.{after}
-use Rattle.plain_collector.proofs.SavedEntries.{AreSaved}
 use Rattle.plain_collector.proofs.steps.+plain.Given as goal
 
 abbrev pub decreases-pass : goal.decreases-pass
@@ -49,7 +49,7 @@ invariant-pass_each-loop l =
 abbrev pub invariant-push-loop-j : goal.invariant-push-loop-j
 invariant-push-loop-j l =
     IsElement l.pcp l.at
-    × AreSaved l.later l.fn.at.state.exponents l.generator (l.commuting - 1)
+    × AreBetween l.generator (l.commuting - 1) l.fn.at.state.exponents l.later
     × (after (passed (rowed_presentation l.pcp) (l.generator - 1)) l.at (spelled l.j (drop l.j (take (l.commuting - 1) l.fn.at.state.exponents)))
     ≡ after (passed (rowed_presentation l.pcp) (l.generator - 1)) l.initial.at
     (spelled l.generator (drop l.generator (take (l.commuting - 1) l.fn.at.state.exponents))))

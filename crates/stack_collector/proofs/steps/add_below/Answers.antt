@@ -1,7 +1,7 @@
 use Rattle.std.proofs.Common.{◌+◌, ◌-◌, sym, subst, arith}
 use Rattle.pc_presentation.specs.Tailed.{Element, IsElement}
 use Rattle.pc_presentation.proofs.quotients.ElementConditions.{set-element}
-use Rattle.stack_collector.proofs.Shortcuts.{copies-added}
+use Rattle.pc_presentation.proofs.commuting.Shortcuts.{copies-added}
 use Rattle.stack_collector.proofs.steps.add_below.Goals as goal
 
 pub returns-clause-element : goal.returns-clause-element

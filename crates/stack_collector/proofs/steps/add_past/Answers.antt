@@ -6,8 +6,8 @@ use Rattle.pc_presentation.specs.Collection.{add_row}
 use Rattle.pc_presentation.specs.Tailed.{Element, IsElement, with_state}
 use Rattle.pc_presentation.proofs.quotients.ElementConditions.{set-element}
 use Rattle.stack_collector.specs.Frames.{side_word}
-use Rattle.stack_collector.proofs.EmptySides.{side-empty}
-use Rattle.stack_collector.proofs.Shortcuts.{copies-wrapped}
+use Rattle.pc_presentation.proofs.commuting.EmptySides.{side-empty}
+use Rattle.pc_presentation.proofs.commuting.Shortcuts.{copies-wrapped}
 use Rattle.stack_collector.proofs.steps.add_past.Goals as goal
 
 pub add_tail-requires-clause-element : goal.add_tail-requires-clause-element

@@ -3,7 +3,7 @@ use Rattle.pc_presentation.specs.declared.relation.Relation.TheVariants.{Commuta
 use Rattle.pc_presentation.specs.Relation.{IsTail}
 use Rattle.pc_presentation.specs.Pcp.{row_of}
 use Rattle.pc_presentation.specs.Tailed.{with_state}
-use Rattle.stack_collector.specs.AddedRows.{add_row_times}
+use Rattle.pc_presentation.specs.AddedRows.{add_row_times}
 use Rattle.stack_collector.proofs.Passes.{passes-begun, relation-passed}
 use Rattle.stack_collector.proofs.steps.pass.Goals as goal
 

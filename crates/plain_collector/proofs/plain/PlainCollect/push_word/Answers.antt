@@ -1,7 +1,7 @@
 use Rattle.std.proofs.Common.{◌<◌, length, ◌∙◌, arith}
 use Rattle.pc_presentation.specs.Collection.{plain_push}
 use Rattle.pc_presentation.specs.Tailed.{rowed_presentation}
-use Rattle.plain_collector.proofs.Progress.{syllables-left}
+use Rattle.pc_presentation.proofs.quotients.PushesLeft.{syllables-left}
 use Rattle.plain_collector.proofs.plain.PlainCollect.push_word.Goals as goal
 
 pub loop-s-preserved : goal.loop-s-preserved

@@ -7,7 +7,7 @@ use Rattle.fp_rows.specs.Lanes.{lane_numbers}
 use Rattle.fp_rows.proofs.RowLaws.{length-scale_row, length-add_scaled, scale_row-below}
 use Rattle.fp_rows.proofs.BelowLaws.{AllBelow-take, AllBelow-drop}
 use Rattle.fp_rows.proofs.LaneLaws.{multiples-looked_up}
-use Rattle.fp_rows.proofs.RowParts.{part-scale_row, part-add_rows, written_part, part_not_written}
+use Rattle.fp_rows.proofs.RowParts.{part-scale_row, part-add_rows, written_part, written_last, part_not_written}
 
 AllBelow-weaker : (p q : ℕ) (xs : List ℕ) → p ≤ q → AllBelow p xs → AllBelow q xs
 AllBelow-weaker p q [] h below = tt
@@ -30,11 +30,24 @@ pub multiples-below : (p k : ℕ) (table ys products : List ℕ) (i : ℕ) → p
 multiples-below p k table ys products i few some is below made =
     subst (AllBelow p) (sym (made ∙ multiples_are p k table ys i few some is below)) (scale_row-below p k (chunk i 16 ys) some)
 
+-- a vector of sums and one of multiples are parts of the result
+pub added_part : (p k : ℕ) (xs ys table products sums : List ℕ) (i : ℕ) → p ≤ 13 → 0 < p → table ≡ scale_row p k lane_numbers
+    → AllBelow p ys → products ≡ map (λ y. get_or table y 0) (chunk i 16 ys) → sums ≡ add_rows p (chunk i 16 xs) products
+    → sums ≡ chunk i 16 (add_scaled p k xs ys)
+added_part p k xs ys table products sums i few some is below made summed =
+    summed
+    ∙ ap (add_rows p (chunk i 16 xs)) (made ∙ multiples_are p k table ys i few some is below ∙ sym (part-scale_row p k i 16 ys))
+    ∙ sym (part-add_rows p i 16 xs (scale_row p k ys))
+
+pub scaled_part : (p k : ℕ) (xs table products : List ℕ) (i : ℕ) → p ≤ 13 → 0 < p → table ≡ scale_row p k lane_numbers
+    → AllBelow p xs → products ≡ map (λ x. get_or table x 0) (chunk i 16 xs) → products ≡ chunk i 16 (scale_row p k xs)
+scaled_part p k xs table products i few some is below made =
+    made ∙ multiples_are p k table xs i few some is below ∙ sym (part-scale_row p k i 16 xs)
+
 module _ (p k : ℕ) (xs ys zs : List ℕ) (i : ℕ) (some : 0 < p) (few : p ≤ 13) (e : length xs ≡ length ys)
     (written : zs ≡ take i (add_scaled p k xs ys) ++ drop i xs) where
   added_read : chunk i 16 zs ≡ chunk i 16 xs
-  added_read =
-      ap (chunk i 16) written ∙ part_not_written (add_scaled p k xs ys) xs i 16 (length-add_scaled p k xs ys e)
+  added_read = ap (chunk i 16) written ∙ part_not_written (add_scaled p k xs ys) xs i 16 (length-add_scaled p k xs ys e)
 
   pub added_read-below : AllBelow p xs → AllBelow p (chunk i 16 zs)
   added_read-below below = subst (AllBelow p) (sym added_read) (AllBelow-chunk p i xs below)
@@ -43,15 +56,20 @@ module _ (p k : ℕ) (xs ys zs : List ℕ) (i : ℕ) (some : 0 < p) (few : p ≤
       → products ≡ map (λ y. get_or table y 0) (chunk i 16 ys) → sums ≡ add_rows p (chunk i 16 zs) products → i + 16 ≤ length xs
       → put_chunk i zs sums ≡ take (i + 16) (add_scaled p k xs ys) ++ drop (i + 16) xs
   added_more table products sums is below made summed h =
-      let part : sums ≡ chunk i 16 (add_scaled p k xs ys) =
-      summed ∙ ap (λ (l : List ℕ). add_rows p l products) added_read
-      ∙ ap (add_rows p (chunk i 16 xs)) (made ∙ multiples_are p k table ys i few some is below ∙ sym (part-scale_row p k i 16 ys))
-      ∙ sym (part-add_rows p i 16 xs (scale_row p k ys)) in
       ap (λ (l : List ℕ). put_chunk i l sums) written
-      ∙ written_part (add_scaled p k xs ys) xs sums i 16 (i + 16) (length-add_scaled p k xs ys e) refl h part
+      ∙ written_part (add_scaled p k xs ys) xs sums i 16 (i + 16) (length-add_scaled p k xs ys e) refl h
+      (added_part p k xs ys table products sums i few some is below made
+      (summed ∙ ap (λ (l : List ℕ). add_rows p l products) added_read))
 
-module _ (p k : ℕ) (xs zs : List ℕ) (i : ℕ) (some : 0 < p) (few : p ≤ 13)
-    (written : zs ≡ take i (scale_row p k xs) ++ drop i xs) where
+  pub added_last : (table products sums : List ℕ) (last : ℕ) → table ≡ scale_row p k lane_numbers → AllBelow p ys
+      → products ≡ map (λ y. get_or table y 0) (chunk last 16 ys) → sums ≡ add_rows p (chunk last 16 xs) products
+      → last + 16 ≡ length xs → last ≤ i → put_chunk last zs sums ≡ add_scaled p k xs ys
+  added_last table products sums last is below made summed whole h =
+      ap (λ (l : List ℕ). put_chunk last l sums) written
+      ∙ written_last (add_scaled p k xs ys) xs sums i last 16 (length-add_scaled p k xs ys e) whole h
+      (added_part p k xs ys table products sums last few some is below made summed)
+
+module _ (p k : ℕ) (xs zs : List ℕ) (i : ℕ) (some : 0 < p) (few : p ≤ 13) (written : zs ≡ take i (scale_row p k xs) ++ drop i xs) where
   scaled_read : chunk i 16 zs ≡ chunk i 16 xs
   scaled_read = ap (chunk i 16) written ∙ part_not_written (scale_row p k xs) xs i 16 (length-scale_row p k xs)
 
@@ -62,8 +80,14 @@ module _ (p k : ℕ) (xs zs : List ℕ) (i : ℕ) (some : 0 < p) (few : p ≤ 13
       → products ≡ map (λ x. get_or table x 0) (chunk i 16 zs) → i + 16 ≤ length xs
       → put_chunk i zs products ≡ take (i + 16) (scale_row p k xs) ++ drop (i + 16) xs
   scaled_more table products is below made h =
-      let part : products ≡ chunk i 16 (scale_row p k xs) =
-      made ∙ ap (map (λ x. get_or table x 0)) scaled_read ∙ multiples_are p k table xs i few some is below
-      ∙ sym (part-scale_row p k i 16 xs) in
       ap (λ (l : List ℕ). put_chunk i l products) written
-      ∙ written_part (scale_row p k xs) xs products i 16 (i + 16) (length-scale_row p k xs) refl h part
+      ∙ written_part (scale_row p k xs) xs products i 16 (i + 16) (length-scale_row p k xs) refl h
+      (scaled_part p k xs table products i few some is below (made ∙ ap (map (λ x. get_or table x 0)) scaled_read))
+
+  pub scaled_last : (table products : List ℕ) (last : ℕ) → table ≡ scale_row p k lane_numbers → AllBelow p xs
+      → products ≡ map (λ x. get_or table x 0) (chunk last 16 xs) → last + 16 ≡ length xs → last ≤ i
+      → put_chunk last zs products ≡ scale_row p k xs
+  scaled_last table products last is below made whole h =
+      ap (λ (l : List ℕ). put_chunk last l products) written
+      ∙ written_last (scale_row p k xs) xs products i last 16 (length-scale_row p k xs) whole h
+      (scaled_part p k xs table products last few some is below made)

@@ -1,6 +1,7 @@
 -- Parts of rows: fronts and rests of sums and multiples, of zero rows, and of lists that are written part by part.
-use Rattle.std.proofs.Common.{◌≡◌, ℕ, zero, suc, ◌+◌, ◌≤◌, ◌↔◌, Bool, IsTrue, List, [], ◌∷◌, ◌++◌, length, take, drop, refl, ap, sym, subst, ◌∙◌, arith}
-use Rattle.std.proofs.lemmas.List.{take-append-drop}
+use Rattle.std.proofs.Common.{◌≡◌, ℕ, zero, suc, ◌+◌, ◌≤◌, List, [], ◌∷◌, ◌++◌, length, take, drop, refl, ap, sym, subst, ◌∙◌, arith}
+use Rattle.std.proofs.lemmas.List.{take_all}
+use Rattle.std.proofs.lemmas.Simd.{put_chunk_whole}
 use lib.Lanes.{put_chunk}
 use Rattle.fp_rows.specs.Rows.{add_rows, scale_row}
 use Rattle.fp_rows.specs.Row.{IsZeroRow}
@@ -68,16 +69,27 @@ part_not_written [] (x ∷ xs) (suc i) n e = absurd (omega arith)
 part_not_written (w ∷ ws) [] (suc i) n e = absurd (omega arith)
 part_not_written (w ∷ ws) (x ∷ xs) (suc i) n e = part_not_written ws xs i n (omega arith)
 
+length-written : (ws xs : List ℕ) (i : ℕ) → length ws ≡ length xs → length (take i ws ++ drop i xs) ≡ length ws
+length-written ws xs zero e = sym e
+length-written [] [] (suc i) e = refl
+length-written [] (x ∷ xs) (suc i) e = absurd (omega arith)
+length-written (w ∷ ws) [] (suc i) e = absurd (omega arith)
+length-written (w ∷ ws) (x ∷ xs) (suc i) e = ap suc (length-written ws xs i (omega arith))
+
+-- the last part, which overlaps with the front or meets it
+pub written_last : (ws xs part : List ℕ) (i j n : ℕ) → length ws ≡ length xs → j + n ≡ length xs → j ≤ i
+    → part ≡ take n (drop j ws) → put_chunk j (take i ws ++ drop i xs) part ≡ ws
+written_last ws xs part i zero n e whole h is =
+    let all : part ≡ ws = is ∙ take_all n ws (omega arith) in
+    put_chunk_whole (take i ws ++ drop i xs) part (length-written ws xs i e ∙ ap length (sym all)) ∙ all
+written_last [] [] part i (suc j) n e whole h is = absurd (omega arith)
+written_last [] (x ∷ xs) part i (suc j) n e whole h is = absurd (omega arith)
+written_last (w ∷ ws) [] part i (suc j) n e whole h is = absurd (omega arith)
+written_last (w ∷ ws) (x ∷ xs) part zero (suc j) n e whole h is = absurd (omega arith)
+written_last (w ∷ ws) (x ∷ xs) part (suc i) (suc j) n e whole h is =
+    ap (λ (l : List ℕ). w ∷ l) (written_last ws xs part i j n (omega arith) (omega arith) (omega arith) is)
+
 -- zero rows
-IsZeroRow-append : (xs ys : List ℕ) → IsZeroRow xs → IsZeroRow ys → IsZeroRow (xs ++ ys)
-IsZeroRow-append [] ys h h' = h'
-IsZeroRow-append (x ∷ xs) ys h h' = (h.0, IsZeroRow-append xs ys h.1 h')
-
-IsZeroRow-drop : (n : ℕ) (xs : List ℕ) → IsZeroRow xs → IsZeroRow (drop n xs)
-IsZeroRow-drop zero xs h = h
-IsZeroRow-drop (suc n) [] h = tt
-IsZeroRow-drop (suc n) (x ∷ xs) h = IsZeroRow-drop n xs h.1
-
 pub IsZeroRow-take_more : (xs : List ℕ) (i n m : ℕ) → m ≡ i + n → IsZeroRow (take i xs) → IsZeroRow (take n (drop i xs)) → IsZeroRow (take m xs)
 IsZeroRow-take_more xs zero n m same h h' =
     let k : n ≡ m = omega arith in
@@ -86,9 +98,19 @@ IsZeroRow-take_more xs (suc i) n zero same h h' = tt
 IsZeroRow-take_more [] (suc i) n (suc m) same h h' = tt
 IsZeroRow-take_more (x ∷ xs) (suc i) n (suc m) same h h' = (h.0, IsZeroRow-take_more xs i n m (omega arith) h.1 h')
 
--- a test of the rest, where the front is zero
-pub IsZeroRow-rest_tested : (xs : List ℕ) (n : ℕ) (b : Bool) → IsZeroRow (take n xs) → (IsTrue b ↔ IsZeroRow (drop n xs)) → IsTrue b ↔ IsZeroRow xs
-IsZeroRow-rest_tested xs n b front rest = (
-  λ t. subst IsZeroRow (take-append-drop n xs) (IsZeroRow-append (take n xs) (drop n xs) front (rest.0 t)),
-  λ h. rest.1 (IsZeroRow-drop n xs h),
-)
+pub IsZeroRow-part : (n m : ℕ) (xs : List ℕ) → IsZeroRow xs → IsZeroRow (take m (drop n xs))
+IsZeroRow-part zero zero xs h = tt
+IsZeroRow-part zero (suc m) [] h = tt
+IsZeroRow-part zero (suc m) (x ∷ xs) h = (h.0, IsZeroRow-part zero m xs h.1)
+IsZeroRow-part (suc n) zero [] h = tt
+IsZeroRow-part (suc n) (suc m) [] h = tt
+IsZeroRow-part (suc n) m (x ∷ xs) h = IsZeroRow-part n m xs h.1
+
+-- a front and a last part that overlap or meet
+pub IsZeroRow-overlapped : (xs : List ℕ) (i j n : ℕ) → j + n ≡ length xs → j ≤ i
+    → IsZeroRow (take i xs) → IsZeroRow (take n (drop j xs)) → IsZeroRow xs
+IsZeroRow-overlapped xs i zero n whole h front part = subst IsZeroRow (take_all n xs (omega arith)) part
+IsZeroRow-overlapped [] i (suc j) n whole h front part = tt
+IsZeroRow-overlapped (x ∷ xs) zero (suc j) n whole h front part = absurd (omega arith)
+IsZeroRow-overlapped (x ∷ xs) (suc i) (suc j) n whole h front part =
+    (front.0, IsZeroRow-overlapped xs i j n (omega arith) (omega arith) front.1 part)

@@ -1,10 +1,9 @@
 -- A difference and what was taken away make the row that was there; by way of a third row differences add up.
-use Rattle.std.proofs.Common.{◌≡◌, ℕ, zero, suc, ◌+◌, ◌*◌, ◌%◌, ◌-◌, ◌<◌, ◌≤◌, List, [], ◌∷◌, length, refl, ap, ap₂, sym, ◌∙◌, subst, arith, mod-eq_of_lt, add-mul}
+use Rattle.std.proofs.Common.{◌≡◌, ℕ, zero, suc, ◌+◌, ◌*◌, ◌%◌, ◌-◌, ◌<◌, List, ap, sym, ◌∙◌, arith, mod-eq_of_lt}
 use Rattle.std.proofs.Math.Nat.{mul-add-mod_self_left, mul-mod_right}
-use Rattle.pq_base.specs.Table.{AllBelow}
 use Rattle.pq_base.specs.Elementary.{zeros}
-use Rattle.fp_rows.specs.Rows.{IsRow, add_rows, scale_row, add_scaled}
-use Rattle.fp_rows.proofs.RowLaws.{IsRow-zeros, IsRow-add_rows, IsRow-scale_row, add_rows-zeros, zeros-add_rows, add_rows_comm, add_rows_assoc, add_rows_swap, scale_row-add_rows, scale_row-scale_row, scale_row-add, scale_row-mod, scale_row-one, scale_row-zero, scale_row_cancels}
+use Rattle.fp_rows.specs.Rows.{IsRow, add_rows, scale_row}
+use Rattle.fp_rows.proofs.RowLaws.{IsRow-add_rows, IsRow-scale_row, zeros-add_rows, add_rows_comm, add_rows_assoc, scale_row-add_rows, scale_row-scale_row, scale_row-mod, scale_row-one, scale_row_cancels}
 use Rattle.fp_rows.specs.Differences.{difference}
 
 -- (p - 1)² is 1 modulo p

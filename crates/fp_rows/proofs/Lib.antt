@@ -5,3 +5,6 @@ pub mod PlaceByPlace
 pub mod KernelLoops
 pub mod RowStorage
 pub mod DifferenceLaws
+pub mod LaneLaws
+pub mod RowParts
+pub mod LaneLoops

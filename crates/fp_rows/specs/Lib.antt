@@ -1,3 +1,4 @@
 pub mod Rows
 pub mod Row
 pub mod Differences
+pub mod Lanes

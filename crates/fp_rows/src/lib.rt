@@ -3,6 +3,7 @@
 #![tactic(auto)]
 
 pub mod kernel;
+mod lanes;
 pub mod row;
 
 pub use row::Row;

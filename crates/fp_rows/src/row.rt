@@ -1,7 +1,6 @@
 //! Rows of residues.
 
-ghost use Rattle.std.specs.Prelude.{◌≡◌, ◌==◌, ◌<◌, ◌≤◌, ◌-◌, IfOk, IfSome, IfNone, IsTrue, ◌↔◌, length, slice_set};
-ghost use Rattle.std.specs.List.{list_all};
+ghost use Rattle.std.specs.Prelude.{◌≡◌, ◌<◌, ◌≤◌, ◌-◌, IfOk, IfSome, IfNone, IsTrue, ◌↔◌, length, slice_set};
 ghost use Rattle.pq_base.specs.Prime.{prime_value};
 ghost use Rattle.pq_base.specs.Elementary.{zeros};
 ghost use Rattle.fp_rows.specs.Rows.{IsRow, add_scaled, scale_row};
@@ -129,12 +128,6 @@ impl Row {
     pub fn is_zero(&self) -> bool
         ensures { IsTrue result ↔ IsZeroRow self.now.entries }
     {
-        are_zeros(&self.entries)
+        kernel::is_zero(&self.entries)
     }
-}
-
-fn are_zeros(entries: &[u8]) -> bool
-    ensures { result ≡ list_all (λ x. x == 0) entries.now }
-{
-    entries.iter().all(|entry| *entry == 0)
 }

@@ -1,0 +1,28 @@
+use Rattle.std.proofs.Common.{refl, add-one, arith}
+use Rattle.fp_rows.proofs.KernelLoops.{scale_fits, scale_more, scale_all}
+use Rattle.fp_rows.proofs.kernel.scale_one_by_one.Goals as goal
+
+pub loop-i-init : goal.loop-i-init
+loop-i-init c = refl
+
+pub overflow_mul-k : goal.overflow_mul-k
+overflow_mul-k c =
+    let fits = scale_fits c.args.p c.args.k c.args.xs.now c.loop-i.xs c.loop-i.i
+    (omega arith) c.loop-i.invariant (omega arith) c.requires.factor c.requires.entries in
+    omega (arith, fits.product)
+
+pub remainder-requires-clause-small : goal.remainder-requires-clause-small
+remainder-requires-clause-small c =
+    let fits = scale_fits c.args.p c.args.k c.args.xs.now c.loop-i.xs c.loop-i.i
+    (omega arith) c.loop-i.invariant (omega arith) c.requires.factor c.requires.entries in
+    omega (arith, fits.quotient)
+
+pub loop-i-preserved : goal.loop-i-preserved
+loop-i-preserved c =
+    rw add-one (scale_more c.args.p c.args.k c.args.xs.now c.loop-i.xs c.loop-i.i
+    (omega arith) c.loop-i.invariant c.remainder.result c.loop-i-test.true c.remainder.ensures)
+
+pub returns : goal.returns
+returns c =
+    scale_all c.args.p c.args.k c.args.xs.now c.loop-i.xs c.loop-i.i
+    (omega arith) c.loop-i.invariant c.loop-i-test.false

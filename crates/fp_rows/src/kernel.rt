@@ -20,7 +20,8 @@ pub fn add_scaled(prime: Prime, xs: &mut [u8], ys: &[u8], k: u8)
     ensures { xs.new ≡ add_scaled (prime_value prime) k xs.old ys.now }
 {
     let p = prime.value();
-    if xs.len() < 16 {
+    // of `ys`, since a compiler that knows how few entries `xs` has makes no vector instructions for them
+    if ys.len() < 16 {
         add_scaled_one_by_one(p, xs, ys, k);
     } else {
         add_scaled_by_lanes(p, xs, ys, k);
@@ -52,7 +53,7 @@ pub fn is_zero(xs: &[u8]) -> bool
     }
 }
 
-// The same by vectors. The last one, which may overlap with the one before, is read first and written last.
+// Adds by vectors. The last one, which may overlap with the one before, is read first and written last.
 fn add_scaled_by_lanes(p: u8, xs: &mut [u8], ys: &[u8], k: u8)
     requires few { p ≤ 13 }
     requires wide { 16 ≤ length xs.old }
@@ -88,7 +89,7 @@ fn add_scaled_one_by_one(p: u8, xs: &mut [u8], ys: &[u8], k: u8)
     }
 }
 
-// The same by vectors, of which the last one is read first and written last.
+// Multiplies by vectors, of which the last one is read first and written last.
 fn scale_by_lanes(p: u8, xs: &mut [u8], k: u8)
     requires few { p ≤ 13 }
     requires wide { 16 ≤ length xs.old }
@@ -118,7 +119,7 @@ fn scale_one_by_one(p: u8, xs: &mut [u8], k: u8)
     }
 }
 
-// The same by vectors, of which the last one may overlap with the one before.
+// Tests by vectors, of which the last one may overlap with the one before.
 fn is_zero_by_lanes(xs: &[u8]) -> bool
     requires wide { 16 ≤ length xs.now }
     ensures { IsTrue result ↔ IsZeroRow xs.now }

@@ -90,7 +90,8 @@ written_last (w ∷ ws) (x ∷ xs) part (suc i) (suc j) n e whole h is =
     ap (λ (l : List ℕ). w ∷ l) (written_last ws xs part i j n (omega arith) (omega arith) (omega arith) is)
 
 -- zero rows
-pub IsZeroRow-take_more : (xs : List ℕ) (i n m : ℕ) → m ≡ i + n → IsZeroRow (take i xs) → IsZeroRow (take n (drop i xs)) → IsZeroRow (take m xs)
+pub IsZeroRow-take_more : (xs : List ℕ) (i n m : ℕ) → m ≡ i + n → IsZeroRow (take i xs) → IsZeroRow (take n (drop i xs))
+    → IsZeroRow (take m xs)
 IsZeroRow-take_more xs zero n m same h h' =
     let k : n ≡ m = omega arith in
     subst (λ (j : ℕ). IsZeroRow (take j xs)) k h'

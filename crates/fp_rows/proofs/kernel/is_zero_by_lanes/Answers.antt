@@ -11,7 +11,8 @@ returns-then-not-are_zeros c = (
 pub loop-i-preserved : goal.loop-i-preserved
 loop-i-preserved c = (
   omega arith,
-  IsZeroRow-take_more c.args.xs.now c.loop-i.i 16 (c.loop-i.i + 16) refl c.loop-i.invariant.1 (c.are_zeros.ensures.0 c.if-not-are_zeros.false),
+  IsZeroRow-take_more c.args.xs.now c.loop-i.i 16 (c.loop-i.i + 16) refl c.loop-i.invariant.1
+      (c.are_zeros.ensures.0 c.if-not-are_zeros.false),
 )
 
 pub returns : goal.returns

@@ -8,10 +8,10 @@ ghost use Rattle.pc_presentation.specs.Relation.{IsRelation};
 ghost use Rattle.pc_presentation.specs.Tailed.{rowed_presentation, IsElement};
 ghost use Rattle.pc_presentation.specs.ImageElements.{AreImageElements};
 
-use crate::checks::is_over;
 use crate::relation_text::{overlap_of, syllables_of};
-use crate::text::{numbers, show_numbers};
 use anyhow::{Result, bail};
+use case_lists::text::{numbers, show_numbers};
+use case_lists::{is_over, show_row};
 use fp_rows::Row;
 use pc_presentation::{
     Collect, Elem, Overlap, Pcp, Relation, Scratch, Syllable, commutator, evaluate, inverse, power,
@@ -57,18 +57,6 @@ fn push_times(plain: &mut Plain, pcp: &Pcp, at: &mut Elem, s: Syllable) -> bool
         }
     }
     true
-}
-
-/// Writes the entries of a row.
-pub(crate) fn show_row(out: &mut String, row: &Row) -> Result<()> {
-    if row.width() == 0 {
-        out.push_str(" none")?;
-    }
-    for k in 0..row.width() {
-        let entry = row.get(k + 1);
-        write!(out, " {entry}")?;
-    }
-    Ok(())
 }
 
 /// Writes the exponents of an element, and its tails behind a bar where there are tails.

@@ -4,14 +4,13 @@
 //! `evaluate LETTERS / U / V` for the value of a word at two elements, and `ways` with an overlap. A word `a2*a1` is the
 //! element that it is collected to. An element is shown as its exponents, and its tails behind a bar.
 
-use crate::cases::Cases;
 use crate::element_calls::{
     is_relation, show_evaluated, show_of_one, show_of_two, show_power, show_ways,
 };
-use crate::presentation_cases::prime_of;
 use crate::relation_text::{relation_of, show_syllables, syllables_of};
-use crate::text::{halves, numbers};
 use anyhow::{Result, bail};
+use case_lists::text::{halves, numbers};
+use case_lists::{Cases, prime_of};
 use pc_presentation::{Pcp, PcpBuilder, Relation};
 use std::alloc::Global;
 

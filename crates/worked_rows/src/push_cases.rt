@@ -7,13 +7,13 @@
 ghost use Rattle.pc_presentation.specs.Tailed.{IsElement};
 
 use crate::by_definition::{Listed, Rule, Rules, normal_word, push, spell};
-use crate::cases::Cases;
 use crate::draws::Draws;
 use crate::element_calls::{push_if_any, show_element};
 use crate::element_cases::{builder_of, sides_of};
 use crate::relation_text::{relation_of, syllables_of};
-use crate::text::halves;
 use anyhow::{Result, bail};
+use case_lists::Cases;
+use case_lists::text::halves;
 use fp_rows::Row;
 use pc_presentation::{Collect, Elem, Pcp, PcpBuilder, Syllable};
 use plain_collector::Plain;

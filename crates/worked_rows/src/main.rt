@@ -19,6 +19,7 @@ mod element_cases;
 mod parts_cases;
 mod presentation_cases;
 mod push_cases;
+mod reached;
 mod relation_text;
 mod row_cases;
 mod step_cases;

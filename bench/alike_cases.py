@@ -1,8 +1,8 @@
 #!/usr/bin/env python3
-"""Writes a folder of cases for the program `worked_rows` in which every example is answered over full covers and over light ones.
+"""Writes a folder of cases for the program `worked_towers` in which every example is answered over full covers and over light ones.
 
     python3 bench/alike_cases.py FOLDER [TEXT PRIME CLASS]...
-    crates/worked_rows/out/worked_rows FOLDER
+    crates/worked_towers/out/worked_towers FOLDER
 
 The examples are those of `examples/answers`, of each presentation and prime the greatest class; further presentations are named with
 a prime and a class behind the folder. The program fails at the first presentation whose two answers are not the same, byte for byte.
@@ -10,8 +10,7 @@ a prime and a class behind the folder. The program fails at the first presentati
 import pathlib
 import sys
 
-KINDS = ["base", "words", "rows", "streams", "presentations", "parts", "answers", "elements", "pushes", "covers", "steps", "endos",
-         "logs", "towers", "alike", "commands"]
+KINDS = ["endos", "logs", "towers", "alike", "commands"]
 EXAMPLES = pathlib.Path(__file__).resolve().parent.parent / "examples"
 
 

@@ -1,4 +1,2 @@
-mod EmptyCounts
-mod EmptySpans
 mod ImageLists
 mod KeptTails

@@ -2,10 +2,10 @@
 //! and of a copy, with the JSON form, or the line of its first fault. `with OLD => NEW` reads the text with the first OLD
 //! in it replaced by NEW.
 
-use crate::cases::Cases;
-use crate::text::{Text, show, unescaped};
-use answer_text::{AnswerFault, json, read_answer, text};
+use answer_text::{AnswerFault, read_answer};
 use anyhow::{Result, bail};
+use case_lists::text::{Text, unescaped};
+use case_lists::{Cases, show_answer};
 use pc_presentation::Answer;
 use std::alloc::Global;
 
@@ -77,16 +77,4 @@ pub(crate) fn read_short(alloc: Global, bytes: &[u8]) -> Result<Result<Answer, A
         bail!("too long");
     }
     Ok(read_answer(alloc, bytes))
-}
-
-/// Writes an answer as text, and as JSON.
-pub(crate) fn show_answer(alloc: Global, answer: &Answer, out: &mut String) -> Result<()> {
-    let written = text(alloc, answer)?;
-    show(out, &written)?;
-    show(out, &json(alloc, answer)?)?;
-    let copy = answer.duplicate()?;
-    if text(alloc, &copy)?.as_slice() != written.as_slice() {
-        writeln!(out, "    copied otherwise")?;
-    }
-    Ok(())
 }

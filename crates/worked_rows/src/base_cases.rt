@@ -5,11 +5,10 @@
 ghost use Rattle.std.specs.Prelude.{◌<◌};
 ghost use Rattle.pq_base.specs.Prime.{prime_value};
 
-use crate::cases::Cases;
 use crate::parts_cases::names_of;
-use crate::presentation_cases::prime_of;
-use crate::text::{halves, numbers, show_numbers};
 use anyhow::{Result, bail};
+use case_lists::text::{halves, numbers, show_numbers};
+use case_lists::{Cases, prime_of};
 use pq_base::{Name, Path, Prime, Status, limits, names_copied};
 use std::alloc::Global;
 

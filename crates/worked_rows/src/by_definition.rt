@@ -2,7 +2,7 @@
 
 ghost use Rattle.std.specs.Prelude.{◌≤◌};
 
-use pc_presentation::Relation;
+use pc_presentation::{Relation, Syllable};
 use pq_base::NoMemory;
 use std::alloc::Global;
 
@@ -93,6 +93,25 @@ fn push_side(rules: &Rules, at: &mut Listed, relation: Relation, depth: u8) {
         }
     }
     add_tail(rules.prime, &mut at.tails, rule.tail);
+}
+
+/// Pushes the letters of a word of generators up to 8, and adds a tail.
+pub(crate) fn push_word(rules: &Rules, at: &mut Listed, word: &[Syllable], tail: Option<u16>) {
+    for s in word {
+        if 1 <= s.generator && s.generator <= 8 {
+            push_times(rules, at, s.generator, s.exponent);
+        }
+    }
+    add_tail(rules.prime, &mut at.tails, tail);
+}
+
+fn push_times(rules: &Rules, at: &mut Listed, generator: u16, times: u8)
+    requires from_one { 1 ≤ generator }
+    requires in_range { generator ≤ 8 }
+{
+    for _ in 0..times {
+        push(rules, at, generator, 8);
+    }
 }
 
 /// The relation whose left side a word begins with.

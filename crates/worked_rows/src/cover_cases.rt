@@ -5,28 +5,23 @@
 //! the row of a relator, where it has one. `light` is the light cover, shown as `cover` shows it, `tests` are the overlaps that leave
 //! room for the next class with their rows there, and `carries SOURCE` says whether a relation or an image has room.
 
-ghost use Rattle.std.specs.Prelude.{◌≡◌, IfOk, IsTrue, length};
+ghost use Rattle.std.specs.Prelude.{IsTrue, length};
 ghost use Rattle.pq_base.specs.SignedWord.{HasLetters};
-ghost use Rattle.pc_presentation.specs.Scratch.{IsScratch};
-ghost use Rattle.p_cover.specs.Covers.{cover_presentation};
 ghost use Rattle.p_cover.specs.CoverLaws.{IsSource};
 ghost use Rattle.p_cover.specs.Sources.{source_of};
 
 use crate::answer_cases::read_short;
-use crate::cases::Cases;
-use crate::checks::is_over;
-use crate::element_calls::{show_element, show_row};
+use crate::element_calls::show_element;
 use crate::relation_text::{relation_of, show_overlap};
-use crate::text::Text;
-use crate::word_cases::word_of;
 use anyhow::{Result, bail};
+use case_lists::text::Text;
+use case_lists::{Cases, empty_row, is_over, scratch_of, show_row, word_of};
 use consistency::{Tests, row};
 use epimorphism::relator_row;
 use fp_rows::Row;
 use free_words::Word;
 use p_cover::{Cover, Images, TailSource, cover_of, full_cover, want_order};
-use pc_presentation::{Answer, Overlap, Relation, Scratch};
-use plain_collector::Plain;
+use pc_presentation::{Answer, Overlap, Relation};
 use std::alloc::Global;
 use tails_by_weight::{carries, light_cover, light_tests};
 
@@ -138,13 +133,6 @@ fn show_cover(alloc: Global, cover: &Cover, out: &mut String) -> Result<()> {
     show_images(alloc, cover, out)
 }
 
-pub(crate) fn scratch_of(alloc: Global, cover: &Cover) -> Result<Scratch<Plain>>
-    ensures { IfOk result (λ s. IsScratch (cover_presentation cover.now) s) }
-{
-    let s = Scratch::<Plain>::new(alloc, cover.pcp())?;
-    Ok(s)
-}
-
 /// Writes the images of the given generators, each with its inverse.
 fn show_images(alloc: Global, cover: &Cover, out: &mut String) -> Result<()> {
     let mut s = scratch_of(alloc, cover)?;
@@ -164,15 +152,6 @@ fn show_tail(cover: &Cover, source: TailSource, out: &mut String) -> Result<()> 
         None => writeln!(out, "    none")?,
     }
     Ok(())
-}
-
-/// A row over the tails of a cover.
-pub(crate) fn empty_row(alloc: Global, cover: &Cover) -> Result<Row>
-    ensures prime { IfOk result (λ row. row.prime ≡ cover.now.answer.presentation.prime) }
-    ensures width { IfOk result (λ row. length row.entries ≡ length cover.now.sources) }
-{
-    let row = Row::zero(alloc, cover.pcp().prime(), cover.tails())?;
-    Ok(row)
 }
 
 fn show_overlaps(alloc: Global, cover: &Cover, out: &mut String) -> Result<()> {

@@ -1,45 +1,51 @@
-//! Calls on elements of a presentation, over the plain collector.
+//! Calls on elements of a presentation, over any collector.
 
 ghost use Rattle.std.specs.Prelude.{◌≡◌, ◌↔◌, IfOk, IsTrue, length};
 ghost use Rattle.pq_base.specs.SignedWord.{HasLetters};
-ghost use Rattle.pc_presentation.specs.Collection.{identity, plain_push};
+ghost use Rattle.pc_presentation.specs.Collection.{identity};
 ghost use Rattle.pc_presentation.specs.Arithmetic.{product_by};
 ghost use Rattle.pc_presentation.specs.Relation.{IsRelation};
 ghost use Rattle.pc_presentation.specs.Tailed.{rowed_presentation, IsElement};
 ghost use Rattle.pc_presentation.specs.ImageElements.{AreImageElements};
 
-use crate::checks::is_over;
 use crate::relation_text::{overlap_of, syllables_of};
-use crate::text::{numbers, show_numbers};
 use anyhow::{Result, bail};
+use case_lists::text::{numbers, show_numbers};
+use case_lists::{is_over, show_row};
 use fp_rows::Row;
 use pc_presentation::{
     Collect, Elem, Overlap, Pcp, Relation, Scratch, Syllable, commutator, evaluate, inverse, power,
     product, two_ways, value,
 };
-use plain_collector::Plain;
 use std::alloc::Global;
 
 /// Pushes a generator, unless it is none of the presentation.
-pub(crate) fn push_if_any(plain: &mut Plain, pcp: &Pcp, at: &mut Elem, generator: u16) -> bool
-    requires { IsElement pcp.now at.old }
-    ensures { IsElement pcp.now at.new }
+pub(crate) fn push_if_any<C: Collect>(
+    collector: &mut C,
+    pcp: &Pcp,
+    at: &mut Elem,
+    generator: u16,
+) -> bool
+    requires serves { C.serves collector.old pcp.now.presentation.rank }
+    requires element { IsElement pcp.now at.old }
+    ensures serves { C.serves collector.new pcp.now.presentation.rank }
+    ensures element { IsElement pcp.now at.new }
 {
     if generator < 1 || pcp.rank() < generator {
         return false;
     }
-    plain.push(pcp, at, generator);
+    collector.push(pcp, at, generator);
     true
 }
 
 /// The element that a word is collected to.
-pub(crate) fn element(alloc: Global, pcp: &Pcp, word: &[Syllable]) -> Result<Elem>
+fn element<C: Collect + Drop>(alloc: Global, pcp: &Pcp, word: &[Syllable]) -> Result<Elem>
     ensures { IfOk result (λ e. IsElement pcp.now e) }
 {
-    let mut plain = Plain::fresh(alloc, pcp)?;
+    let mut collector = C::fresh(alloc, pcp)?;
     let mut at = Elem::one(alloc, pcp)?;
     for s in word {
-        if !push_times(&mut plain, pcp, &mut at, *s) {
+        if !push_times(&mut collector, pcp, &mut at, *s) {
             bail!("no such generator");
         }
     }
@@ -47,28 +53,18 @@ pub(crate) fn element(alloc: Global, pcp: &Pcp, word: &[Syllable]) -> Result<Ele
 }
 
 /// Pushes the letters of a syllable, unless its generator is none of the presentation.
-fn push_times(plain: &mut Plain, pcp: &Pcp, at: &mut Elem, s: Syllable) -> bool
-    requires { IsElement pcp.now at.old }
-    ensures { IsElement pcp.now at.new }
+fn push_times<C: Collect>(collector: &mut C, pcp: &Pcp, at: &mut Elem, s: Syllable) -> bool
+    requires serves { C.serves collector.old pcp.now.presentation.rank }
+    requires element { IsElement pcp.now at.old }
+    ensures serves { C.serves collector.new pcp.now.presentation.rank }
+    ensures element { IsElement pcp.now at.new }
 {
     for _ in 0..s.exponent {
-        if !push_if_any(plain, pcp, at, s.generator) {
+        if !push_if_any(collector, pcp, at, s.generator) {
             return false;
         }
     }
     true
-}
-
-/// Writes the entries of a row.
-pub(crate) fn show_row(out: &mut String, row: &Row) -> Result<()> {
-    if row.width() == 0 {
-        out.push_str(" none")?;
-    }
-    for k in 0..row.width() {
-        let entry = row.get(k + 1);
-        write!(out, " {entry}")?;
-    }
-    Ok(())
 }
 
 /// Writes the exponents of an element, and its tails behind a bar where there are tails.
@@ -83,7 +79,7 @@ pub(crate) fn show_element(out: &mut String, element: &Elem) -> Result<()> {
     Ok(())
 }
 
-pub(crate) fn show_of_two(
+pub(crate) fn show_of_two<C: Collect + Drop>(
     alloc: Global,
     pcp: &Pcp,
     verb: &str,
@@ -91,9 +87,9 @@ pub(crate) fn show_of_two(
     second: &[Syllable],
     out: &mut String,
 ) -> Result<()> {
-    let mut s = Scratch::<Plain>::new(alloc, pcp)?;
-    let u = element(alloc, pcp, first)?;
-    let v = element(alloc, pcp, second)?;
+    let mut s = Scratch::<C>::new(alloc, pcp)?;
+    let u = element::<C>(alloc, pcp, first)?;
+    let v = element::<C>(alloc, pcp, second)?;
     let mut result = Elem::one(alloc, pcp)?;
     if verb == "product" {
         product(&mut s, pcp, &u, &v, &mut result);
@@ -103,45 +99,45 @@ pub(crate) fn show_of_two(
     show_element(out, &result)
 }
 
-pub(crate) fn show_of_one(
+pub(crate) fn show_of_one<C: Collect + Drop>(
     alloc: Global,
     pcp: &Pcp,
     word: &[Syllable],
     out: &mut String,
 ) -> Result<()> {
-    let u = element(alloc, pcp, word)?;
-    show_element(out, &inverse_of(alloc, pcp, &u)?)
+    let u = element::<C>(alloc, pcp, word)?;
+    show_element(out, &inverse_of::<C>(alloc, pcp, &u)?)
 }
 
 /// The inverse of an element.
-fn inverse_of(alloc: Global, pcp: &Pcp, u: &Elem) -> Result<Elem>
+fn inverse_of<C: Collect + Drop>(alloc: Global, pcp: &Pcp, u: &Elem) -> Result<Elem>
     requires { IsElement pcp.now u.now }
     ensures element { IfOk result (λ e. IsElement pcp.now e) }
     ensures inverse { let Y = rowed_presentation pcp.now in
-        IfOk result (λ e. product_by Y (plain_push Y) u.now.state e.state ≡ identity Y Y.base.rank) }
+        IfOk result (λ e. product_by Y (C.meaning Y) u.now.state e.state ≡ identity Y Y.base.rank) }
 {
-    let mut s = Scratch::<Plain>::new(alloc, pcp)?;
+    let mut s = Scratch::<C>::new(alloc, pcp)?;
     let mut out = Elem::one(alloc, pcp)?;
     inverse(&mut s, pcp, u, &mut out);
     Ok(out)
 }
 
-pub(crate) fn show_power(
+pub(crate) fn show_power<C: Collect + Drop>(
     alloc: Global,
     pcp: &Pcp,
     n: u32,
     word: &[Syllable],
     out: &mut String,
 ) -> Result<()> {
-    let mut s = Scratch::<Plain>::new(alloc, pcp)?;
-    let u = element(alloc, pcp, word)?;
+    let mut s = Scratch::<C>::new(alloc, pcp)?;
+    let u = element::<C>(alloc, pcp, word)?;
     let mut result = Elem::one(alloc, pcp)?;
     power(&mut s, pcp, &u, n, &mut result);
     show_element(out, &result)
 }
 
 /// Writes the value of a word at two elements.
-pub(crate) fn show_evaluated(
+pub(crate) fn show_evaluated<C: Collect + Drop>(
     alloc: Global,
     pcp: &Pcp,
     letters: &str,
@@ -154,10 +150,10 @@ pub(crate) fn show_evaluated(
     if !is_over(2, &word) {
         bail!("a letter without an image");
     }
-    show_value(alloc, pcp, &word, &first, &second, out)
+    show_value::<C>(alloc, pcp, &word, &first, &second, out)
 }
 
-fn show_value(
+fn show_value<C: Collect + Drop>(
     alloc: Global,
     pcp: &Pcp,
     word: &[i32],
@@ -167,15 +163,15 @@ fn show_value(
 ) -> Result<()>
     requires { HasLetters 2 word.now }
 {
-    let u = element(alloc, pcp, first)?;
-    let v = element(alloc, pcp, second)?;
-    let x = inverse_of(alloc, pcp, &u)?;
-    let y = inverse_of(alloc, pcp, &v)?;
-    show_value_at(alloc, pcp, word, &[u, v], &[x, y], out)
+    let u = element::<C>(alloc, pcp, first)?;
+    let v = element::<C>(alloc, pcp, second)?;
+    let x = inverse_of::<C>(alloc, pcp, &u)?;
+    let y = inverse_of::<C>(alloc, pcp, &v)?;
+    show_value_at::<C>(alloc, pcp, word, &[u, v], &[x, y], out)
 }
 
 /// Writes the value of a word as `evaluate` and as `value` give it.
-fn show_value_at(
+fn show_value_at<C: Collect + Drop>(
     alloc: Global,
     pcp: &Pcp,
     word: &[i32],
@@ -184,9 +180,9 @@ fn show_value_at(
     out: &mut String,
 ) -> Result<()>
     requires letters { HasLetters (length images.now) word.now }
-    requires images { AreImageElements pcp.now (plain_push (rowed_presentation pcp.now)) images.now inverses.now }
+    requires images { AreImageElements pcp.now (C.meaning (rowed_presentation pcp.now)) images.now inverses.now }
 {
-    let mut s = Scratch::<Plain>::new(alloc, pcp)?;
+    let mut s = Scratch::<C>::new(alloc, pcp)?;
     let mut result = Elem::one(alloc, pcp)?;
     evaluate(&mut s, pcp, word, images, inverses, &mut result);
     value(&mut s, pcp, word, images, inverses);
@@ -195,14 +191,24 @@ fn show_value_at(
 }
 
 /// Writes what both ways of an overlap reach.
-pub(crate) fn show_ways(alloc: Global, pcp: &Pcp, rest: &str, out: &mut String) -> Result<()> {
+pub(crate) fn show_ways<C: Collect + Drop>(
+    alloc: Global,
+    pcp: &Pcp,
+    rest: &str,
+    out: &mut String,
+) -> Result<()> {
     let (kind, places) = rest.split_once(' ').unwrap_or((rest, ""));
     let places = numbers::<u16>(alloc, places)?;
-    show_two_ways(alloc, pcp, overlap_of(kind, &places)?, out)
+    show_two_ways::<C>(alloc, pcp, overlap_of(kind, &places)?, out)
 }
 
-fn show_two_ways(alloc: Global, pcp: &Pcp, overlap: Overlap, out: &mut String) -> Result<()> {
-    let mut s = Scratch::<Plain>::new(alloc, pcp)?;
+fn show_two_ways<C: Collect + Drop>(
+    alloc: Global,
+    pcp: &Pcp,
+    overlap: Overlap,
+    out: &mut String,
+) -> Result<()> {
+    let mut s = Scratch::<C>::new(alloc, pcp)?;
     if !overlap.is_of(pcp.rank()) {
         bail!("no overlap of the presentation");
     }

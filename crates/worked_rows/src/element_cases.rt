@@ -1,18 +1,19 @@
-//! Presentations with tails, and elements over the plain collector. `presentation P T / WEIGHTS` begins one with T tails,
+//! Presentations with tails, and elements over both collectors, which are to give the same. `presentation P T / WEIGHTS` begins one with T tails,
 //! `relation LEFT = WORD` and `relation LEFT = WORD tail N` give relations, and `finish` ends it: the answer is each
 //! relation that has a right side or a tail. Then come `product U / V`, `inverse U`, `commutator U / V`, `power N / U`,
 //! `evaluate LETTERS / U / V` for the value of a word at two elements, and `ways` with an overlap. A word `a2*a1` is the
 //! element that it is collected to. An element is shown as its exponents, and its tails behind a bar.
 
-use crate::cases::Cases;
 use crate::element_calls::{
     is_relation, show_evaluated, show_of_one, show_of_two, show_power, show_ways,
 };
-use crate::presentation_cases::prime_of;
 use crate::relation_text::{relation_of, show_syllables, syllables_of};
-use crate::text::{halves, numbers};
 use anyhow::{Result, bail};
-use pc_presentation::{Pcp, PcpBuilder, Relation};
+use case_lists::text::{halves, numbers};
+use case_lists::{Cases, prime_of};
+use pc_presentation::{Collect, Pcp, PcpBuilder, Relation};
+use plain_collector::Plain;
+use stack_collector::Stack;
 use std::alloc::Global;
 
 #[derive(Drop)]
@@ -40,7 +41,7 @@ impl Cases for ElementCases {
             "relation" => self.relation(rest, out),
             "finish" => self.finish(out),
             _ => match &self.pcp {
-                Some(pcp) => calculate(self.alloc, pcp, verb, rest, out),
+                Some(pcp) => calculate_by_both(self.alloc, pcp, verb, rest, out),
                 None => bail!("no presentation"),
             },
         }
@@ -160,11 +161,36 @@ fn show_copy(pcp: &Pcp, out: &mut String) -> Result<()> {
     Ok(())
 }
 
-fn calculate(alloc: Global, pcp: &Pcp, verb: &str, rest: &str, out: &mut String) -> Result<()> {
+/// Writes what both collectors give, where they give the same.
+fn calculate_by_both(
+    alloc: Global,
+    pcp: &Pcp,
+    verb: &str,
+    rest: &str,
+    out: &mut String,
+) -> Result<()> {
+    let mut plain = String::new(alloc);
+    calculate::<Plain>(alloc, pcp, verb, rest, &mut plain)?;
+    let mut stack = String::new(alloc);
+    calculate::<Stack>(alloc, pcp, verb, rest, &mut stack)?;
+    if plain.as_str() != stack.as_str() {
+        bail!("the collectors differ");
+    }
+    out.push_str(plain.as_str())?;
+    Ok(())
+}
+
+fn calculate<C: Collect + Drop>(
+    alloc: Global,
+    pcp: &Pcp,
+    verb: &str,
+    rest: &str,
+    out: &mut String,
+) -> Result<()> {
     match verb {
         "product" | "commutator" => {
             let (u, v) = halves(rest, "/")?;
-            show_of_two(
+            show_of_two::<C>(
                 alloc,
                 pcp,
                 verb,
@@ -173,17 +199,17 @@ fn calculate(alloc: Global, pcp: &Pcp, verb: &str, rest: &str, out: &mut String)
                 out,
             )
         }
-        "inverse" => show_of_one(alloc, pcp, &syllables_of(alloc, rest)?, out),
+        "inverse" => show_of_one::<C>(alloc, pcp, &syllables_of(alloc, rest)?, out),
         "power" => {
             let (n, u) = halves(rest, "/")?;
-            show_power(alloc, pcp, n.parse::<u32>()?, &syllables_of(alloc, u)?, out)
+            show_power::<C>(alloc, pcp, n.parse::<u32>()?, &syllables_of(alloc, u)?, out)
         }
         "evaluate" => {
             let (letters, images) = halves(rest, "/")?;
             let (u, v) = halves(images, "/")?;
-            show_evaluated(alloc, pcp, letters, [u, v], out)
+            show_evaluated::<C>(alloc, pcp, letters, [u, v], out)
         }
-        "ways" => show_ways(alloc, pcp, rest, out),
+        "ways" => show_ways::<C>(alloc, pcp, rest, out),
         _ => bail!("no such verb"),
     }
 }

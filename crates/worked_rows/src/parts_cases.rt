@@ -2,11 +2,10 @@
 //! these letters, and `endo LETTERS / LETTERS ..` give parts; `make` makes a presentation of them and forgets them: the
 //! answer is its canonical text, or that it is refused.
 
-use crate::cases::Cases;
 use crate::presentation_cases::show_presentation;
-use crate::text::halves;
-use crate::word_cases::word_of;
 use anyhow::{Result, bail};
+use case_lists::text::halves;
+use case_lists::{Cases, word_of};
 use free_words::Word;
 use lpres_reader::LPres;
 use pq_base::Name;

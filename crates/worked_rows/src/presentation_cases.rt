@@ -2,16 +2,13 @@
 //! of what it means, which reads back as that, and so does a copy; or the line and the kind of its first fault. Of what
 //! was read last, `along NUMBERS / LETTERS` is the image of a word along endomorphisms, and `trivial P` the answer of class 0.
 
-use crate::answer_cases::show_answer;
-use crate::cases::Cases;
-use crate::checks::{are_endo_numbers, is_over};
-use crate::text::{Text, halves, numbers, show, unescaped};
-use crate::word_cases::{show_word, word_of};
+use crate::word_cases::show_word;
 use anyhow::{Result, bail};
+use case_lists::text::{Text, halves, numbers, show, unescaped};
+use case_lists::{Cases, are_endo_numbers, is_over, prime_of, read_short, show_answer, word_of};
 use free_words::Word;
-use lpres_reader::{Kind, LPres, ReadRefusal, along, read, write};
+use lpres_reader::{Kind, LPres, ReadRefusal, along, write};
 use pc_presentation::Answer;
-use pq_base::Prime;
 use std::alloc::Global;
 
 #[derive(Drop)]
@@ -67,14 +64,6 @@ impl PresentationCases {
     }
 }
 
-/// What a text that isn't too long reads as.
-pub(crate) fn read_short(alloc: Global, text: &[u8]) -> Result<Result<LPres, ReadRefusal>> {
-    if text.len() > 10_000_000 {
-        bail!("too long");
-    }
-    Ok(read(alloc, text))
-}
-
 fn show_fault(line: u32, kind: Kind, out: &mut String) -> Result<()> {
     match kind {
         Kind::Limit(which, number) => writeln!(out, "    line {line}: {which:?} {number}")?,
@@ -128,14 +117,6 @@ fn show_image(
         bail!("out of range");
     }
     show_word(out, along(alloc, pres, path, word))
-}
-
-/// The prime that a text is.
-pub(crate) fn prime_of(text: &str) -> Result<Prime> {
-    match Prime::of(text.trim().parse::<u8>()?) {
-        Some(prime) => Ok(prime),
-        None => bail!("no prime"),
-    }
 }
 
 fn show_trivial(alloc: Global, pres: &LPres, rest: &str, out: &mut String) -> Result<()> {

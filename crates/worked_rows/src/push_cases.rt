@@ -1,22 +1,22 @@
-//! The plain collector beside a second computation. `presentation P T / WEIGHTS` and `relation LEFT = WORD tail N` give a
+//! Both collectors beside a second computation. `presentation P T / WEIGHTS` and `relation LEFT = WORD tail N` give a
 //! presentation of at most eight generators and five tails, as in `ElementCases`. `push N SEED` pushes N generators, drawn
-//! from the seed, by the collector and by the plain rule as it is defined, and `steps N SEED` also takes directed steps until
-//! there are none, which lead to the same element where the presentation is consistent: the answer is how many pushes were
-//! alike, and the element that they reach.
+//! from the seed, by the plain collector, by the one that keeps a stack, and by the plain rule as it is defined; `words N SEED`
+//! pushes N words of three drawn syllables each, most with a drawn tail behind it; and `steps N SEED` is as `push`, and also
+//! takes directed steps until there are none, which lead to the same element where the presentation is consistent: the
+//! answer is how many times all were alike, and the element that they reach.
 
-ghost use Rattle.pc_presentation.specs.Tailed.{IsElement};
+ghost use Rattle.std.specs.Prelude.{◌≤◌};
 
-use crate::by_definition::{Listed, Rule, Rules, normal_word, push, spell};
-use crate::cases::Cases;
-use crate::draws::Draws;
-use crate::element_calls::{push_if_any, show_element};
+use crate::by_definition::{Rule, Rules, normal_word, spell};
+use crate::draws::{Draws, syllable, tail};
+use crate::element_calls::show_element;
 use crate::element_cases::{builder_of, sides_of};
+use crate::reached::{entries, nothing_reached};
 use crate::relation_text::{relation_of, syllables_of};
-use crate::text::halves;
 use anyhow::{Result, bail};
-use fp_rows::Row;
-use pc_presentation::{Collect, Elem, Pcp, PcpBuilder, Syllable};
-use plain_collector::Plain;
+use case_lists::Cases;
+use case_lists::text::halves;
+use pc_presentation::{Elem, Pcp, PcpBuilder, Syllable};
 use std::alloc::Global;
 
 #[derive(Drop)]
@@ -42,8 +42,7 @@ impl Cases for PushCases {
         match verb {
             "presentation" => self.head = Some(String::from_str(self.alloc, rest)?),
             "relation" => self.rules.list.push(rule_of(self.alloc, rest)?)?,
-            "push" => self.push(false, rest, out)?,
-            "steps" => self.push(true, rest, out)?,
+            "push" | "steps" | "words" => self.show(verb, rest, out)?,
             _ => bail!("no such verb"),
         }
         Ok(())
@@ -51,7 +50,7 @@ impl Cases for PushCases {
 }
 
 impl PushCases {
-    fn push(&mut self, with_steps: bool, rest: &str, out: &mut String) -> Result<()> {
+    fn show(&mut self, verb: &str, rest: &str, out: &mut String) -> Result<()> {
         let Some(head) = &self.head else {
             bail!("no presentation");
         };
@@ -61,17 +60,13 @@ impl PushCases {
             bail!("too many generators or tails");
         }
         let (count, seed) = halves(rest, " ")?;
-        let mut draws = Draws(seed.parse::<u32>()?);
+        let draws = Draws(seed.parse::<u32>()?);
         let count = count.parse::<u32>()?;
-        show_pushes(
-            self.alloc,
-            &mut draws,
-            &self.rules,
-            &pcp,
-            with_steps,
-            count,
-            out,
-        )
+        if verb == "words" {
+            return show_words(self.alloc, draws, &self.rules, &pcp, count, out);
+        }
+        let with_steps = verb == "steps";
+        show_pushes(self.alloc, draws, &self.rules, &pcp, with_steps, count, out)
     }
 }
 
@@ -124,20 +119,6 @@ fn letters(alloc: Global, exponents: &[u8]) -> Result<Vec<u16>> {
     Ok(word)
 }
 
-/// The first five entries of a row, and zeros where it has fewer.
-fn entries(row: &Row) -> [u8; 5] {
-    let mut entries = [0; 5];
-    for k in 0..row.width().min(5) {
-        entries[k as usize] = row.get(k + 1);
-    }
-    entries
-}
-
-/// Whether an element has these exponents and tails.
-fn is_listed(at: &Elem, listed: &Listed) -> bool {
-    listed.exponents.as_slice().starts_with(at.exponents()) && entries(at.tail()) == listed.tails
-}
-
 /// Whether directed steps lead from a word with tails to an element.
 fn steps_lead_to(
     alloc: Global,
@@ -155,49 +136,57 @@ fn steps_lead_to(
 /// Writes how many of so many pushes are alike, and the element that they reach.
 fn show_pushes(
     alloc: Global,
-    draws: &mut Draws,
+    draws: Draws,
     rules: &Rules,
     pcp: &Pcp,
     with_steps: bool,
     count: u32,
     out: &mut String,
 ) -> Result<()> {
-    let mut plain = Plain::fresh(alloc, pcp)?;
-    let mut at = Elem::one(alloc, pcp)?;
-    let mut listed = Listed {
-        exponents: [0; 8],
-        tails: [0; 5],
-    };
+    let mut draws = draws;
+    let mut reached = nothing_reached(alloc, pcp)?;
     let mut alike = 0u32;
     for _ in 0..count {
         let generator = draws.below(pcp.rank().max(1)) + 1;
-        let mut word = letters(alloc, at.exponents())?;
+        let mut word = letters(alloc, reached.by_plain.exponents())?;
         word.push(generator)?;
-        let tails = listed.tails;
-        push_both(&mut plain, rules, pcp, &mut at, &mut listed, generator);
-        if is_listed(&at, &listed)
-            && (!with_steps || steps_lead_to(alloc, rules, word, tails, &at)?)
+        let tails = reached.listed.tails;
+        reached.push(rules, pcp, generator);
+        if reached.are_alike()
+            && (!with_steps || steps_lead_to(alloc, rules, word, tails, &reached.by_plain)?)
         {
             alike = alike.saturating_add(1);
         }
     }
     writeln!(out, "    {alike} alike")?;
-    show_element(out, &at)
+    show_element(out, &reached.by_plain)
 }
 
-/// Pushes a generator by the collector, and by the definition.
-fn push_both(
-    plain: &mut Plain,
+/// Writes how many of so many pushes of words are alike, and the element that they reach.
+fn show_words(
+    alloc: Global,
+    draws: Draws,
     rules: &Rules,
     pcp: &Pcp,
-    at: &mut Elem,
-    listed: &mut Listed,
-    generator: u16,
-)
-    requires { IsElement pcp.now at.old }
-    ensures { IsElement pcp.now at.new }
+    count: u32,
+    out: &mut String,
+) -> Result<()>
+    requires { 1 ≤ pcp.now.presentation.rank }
 {
-    if push_if_any(plain, pcp, at, generator) && 1 <= generator && generator <= 8 {
-        push(rules, listed, generator, 8);
+    let mut draws = draws;
+    let mut reached = nothing_reached(alloc, pcp)?;
+    let mut alike = 0u32;
+    for _ in 0..count {
+        let word = [
+            syllable(&mut draws, pcp),
+            syllable(&mut draws, pcp),
+            syllable(&mut draws, pcp),
+        ];
+        reached.push_word(rules, pcp, word, tail(&mut draws, pcp));
+        if reached.are_alike() {
+            alike = alike.saturating_add(1);
+        }
     }
+    writeln!(out, "    {alike} alike")?;
+    show_element(out, &reached.by_plain)
 }

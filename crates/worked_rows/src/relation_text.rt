@@ -1,7 +1,7 @@
 //! Relations, words of generators and overlaps as cases write them.
 
-use crate::text::halves;
 use anyhow::{Result, bail};
+use case_lists::text::halves;
 use pc_presentation::{Overlap, Relation, Syllable};
 use std::alloc::Global;
 

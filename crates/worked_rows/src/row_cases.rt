@@ -6,11 +6,9 @@
 ghost use Rattle.std.specs.Prelude.{◌≡◌, IfOk, OnOk, length};
 ghost use Rattle.pq_base.specs.Prime.{prime_value};
 
-use crate::cases::Cases;
-use crate::element_calls::show_row;
-use crate::presentation_cases::prime_of;
-use crate::text::{halves, numbers, show_numbers};
 use anyhow::{Result, bail};
+use case_lists::text::{halves, numbers, show_numbers};
+use case_lists::{Cases, prime_of, show_row};
 use fp_echelon::{Basis, Insertion};
 use fp_rows::Row;
 use pq_base::Prime;

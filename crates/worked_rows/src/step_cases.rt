@@ -10,12 +10,12 @@ ghost use Rattle.p_cover.specs.Sources.{source_of, relation_source};
 ghost use Rattle.p_cover.specs.Covers.{all_sources};
 ghost use Rattle.cover_quotient.specs.Defining.{HasEmptySide, MayBeKept, KeptMayBeKept};
 
-use crate::answer_cases::{read_short, show_answer};
-use crate::cases::Cases;
+use crate::answer_cases::read_short;
 use crate::element_calls::is_relation;
 use crate::row_cases::insert_row;
-use crate::text::{Text, numbers};
 use anyhow::{Result, bail};
+use case_lists::text::{Text, numbers};
+use case_lists::{Cases, show_answer};
 use class_step::{Step, eliminate};
 use fp_echelon::Basis;
 use p_cover::{Cover, TailSource, full_cover};

@@ -6,10 +6,9 @@
 //! reader and a writer of the standard library, and `broken` over such ones that don't work.
 
 use crate::broken::Broken;
-use crate::cases::Cases;
-use crate::devices::Devices;
-use crate::text::{Text, numbers, show, unescaped};
 use anyhow::{Result, bail};
+use case_lists::text::{Text, numbers, show, unescaped};
+use case_lists::{Cases, Devices};
 use pq_io::{
     InputRefusal, Sink, Source, StdSink, StdSource, SureSink, SureSource, read_up_to, write_whole,
 };

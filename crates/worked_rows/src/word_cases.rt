@@ -2,10 +2,9 @@
 //! by `/`: `product U / V`, `extended U / V`, `extended_by U / K`, `inverse U`, `power U / N`, `commutator U / V`,
 //! `conjugate U / V`, `substitute U / V / ..`, `reduced U` and `copy U`. `N of LETTERS` is the word so many times.
 
-use crate::cases::Cases;
-use crate::checks::{are_letters, is_letter, is_over};
-use crate::text::{numbers, show_numbers};
 use anyhow::{Result, bail};
+use case_lists::text::show_numbers;
+use case_lists::{Cases, is_letter, is_over, word_of};
 use free_words::{
     Word, WordRefusal, commutator, conjugate, extended, extended_by, inverse, power, product,
     reduce_free, substitute,
@@ -32,17 +31,6 @@ impl Cases for WordCases {
             _ => show_word(out, of_two(alloc, verb, first, second)?),
         }
     }
-}
-
-/// The word that a text is.
-pub(crate) fn word_of(alloc: Global, text: &str) -> Result<Word> {
-    let (times, letters) = text.split_once(" of ").unwrap_or(("1", text));
-    let letters = numbers::<i32>(alloc, letters)?;
-    if !are_letters(&letters) {
-        bail!("a letter 0");
-    }
-    let word = Word::of(alloc, &letters)?;
-    Ok(power(alloc, &word, times.trim().parse::<i32>()?)?)
 }
 
 fn of_one(alloc: Global, verb: &str, text: &str) -> Result<Result<Word, WordRefusal>> {

@@ -2,4 +2,4 @@ use Rattle.pc_presentation.specs.Tailed.{IsElement}
 use Rattle.worked_rows.proofs.element_calls.element.Given as goal
 
 abbrev pub invariant-loop-s : goal.invariant-loop-s
-invariant-loop-s l = IsElement l.pcp l.at
+invariant-loop-s g l = g.C.Collect.serves l.collector l.pcp.presentation.rank × IsElement l.pcp l.at

@@ -1,5 +1,0 @@
-use Rattle.worked_rows.proofs.EmptyCounts.{no_steps}
-use Rattle.worked_rows.proofs.tower_cases.with_fixed_of.Goals as goal
-
-pub with_fixed-requires-clause-log : goal.with_fixed-requires-clause-log
-with_fixed-requires-clause-log c = no_steps c.args.log.now c.requires.empty

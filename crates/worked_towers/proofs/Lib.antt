@@ -1,0 +1,2 @@
+mod EmptyCounts
+mod EmptySpans

@@ -46,6 +46,7 @@ pub(crate) fn begin(pcp: &Pcp, at: &mut Elem, generator: u16) -> Frame
         copies: 0,
         relation: Relation::Power(generator),
         place,
+        syllables: pcp.word(Relation::Power(generator)).len(),
         next: generator,
         times: 0,
         later,
@@ -85,7 +86,7 @@ pub(crate) fn step(pcp: &Pcp, at: &mut Elem, frame: &mut Frame) -> Progress
 {
     if frame.copies > 0 {
         push_letter(pcp, at, frame)
-    } else if frame.place < pcp.word(frame.relation).len() {
+    } else if frame.place < frame.syllables {
         frame.take_syllable(pcp);
         Progress::Within
     } else if frame.times > 0 {
@@ -185,27 +186,23 @@ fn pass(pcp: &Pcp, at: &mut Elem, frame: &mut Frame)
     ensures { IsWithin pcp.now frame.old at.old frame.new at.new }
 {
     let relation = Relation::Commutator(frame.next, frame.generator);
-    let copies = together(pcp, relation, frame.times);
+    let syllables = pcp.word(relation).len();
+    let copies = together(frame.times, syllables);
     add_tail_times(pcp, at, pcp.tail(relation), copies);
     frame.letter = frame.next;
     frame.copies = copies;
     frame.relation = relation;
     frame.place = 0;
+    frame.syllables = syllables;
     frame.times -= copies;
 }
 
-/// How many of these copies are passed at once: one, or all where the word of the relation is empty.
-fn together(pcp: &Pcp, relation: Relation, times: u8) -> u8
-    requires presentation { IsTailedPresentation pcp.now }
-    requires relation { IsRelation pcp.now.presentation.rank relation }
+/// How many of these copies are passed at once: one, or all where the word of their relation has no syllables.
+fn together(times: u8, syllables: usize) -> u8
     requires some { 1 ≤ times }
     ensures some { 1 ≤ result }
     ensures within { result ≤ times }
-    ensures one_or_empty { (result ≡ 1) ⊎ (length (side_word pcp.now relation) ≡ 0) }
+    ensures one_or_empty { (result ≡ 1) ⊎ (syllables ≡ 0) }
 {
-    if pcp.word(relation).is_empty() {
-        times
-    } else {
-        1
-    }
+    if syllables == 0 { times } else { 1 }
 }

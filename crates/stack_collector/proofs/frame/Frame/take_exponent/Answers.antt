@@ -4,6 +4,7 @@ use Rattle.stack_collector.proofs.frame.Frame.take_exponent.Goals as goal
 
 pub returns : goal.returns
 returns c =
-    let few : get_or c.args.self.now.later c.args.self.now.next 0 ≤ 255 = search rules in
-    exponent-taken c.args.pcp.now c.requires.presentation c.args.self.now c.requires.frame (get_or c.args.self.now.later c.args.self.now.next 0)
-    c.requires.none_before c.requires.more refl few
+    let few : get_or c.args.self.now.later c.next_place-place.result 0 ≤ 255 = search rules in
+    exponent-taken c.args.pcp.now c.requires.presentation c.args.self.now c.requires.frame c.next_place-place.result
+    (get_or c.args.self.now.later c.next_place-place.result 0) c.requires.none_before c.next_place-place.ensures.from c.next_place-place.ensures.before_end
+    c.next_place-place.ensures.zeros refl few

@@ -30,7 +30,13 @@ length-side_word T is r h =
     let limit = is.rank_limit in
     omega arith
 
--- exponents of a right side are below the prime
+-- exponents of a right side are positive, and below the prime
+pub exponent-some : (k : ℕ) (e : List ℕ) (m : ℕ) (d : Syllable) → m < length (syllables_of k e) → 1 ≤ (get_or (syllables_of k e) m d).exponent
+exponent-some k [] m d l = absurd (omega arith)
+exponent-some k (zero ∷ es) m d l = exponent-some (suc k) es m d l
+exponent-some k (suc x ∷ es) zero d l = omega arith
+exponent-some k (suc x ∷ es) (suc m) d l = exponent-some (suc k) es m d (omega arith)
+
 exponent-below : (p k : ℕ) (e : List ℕ) (m : ℕ) (d : Syllable) → AllBelow p e → m < length (syllables_of k e) → (get_or (syllables_of k e) m d).exponent < p
 exponent-below p k [] m d h l = absurd (omega arith)
 exponent-below p k (zero ∷ es) m d h l = exponent-below p (suc k) es m d h.1 l

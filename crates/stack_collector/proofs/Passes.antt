@@ -78,7 +78,7 @@ with_passed f n syllables = record f {
 }
 
 module _ (T : TailedPresentation) (f : Frame) (h : IsFrame T f) (e e' : Element) (element : IsElement T e') (n syllables : ℕ)
-    (some : 1 ≤ n) (few : n ≤ f.times) (ended : f.copies ≡ 0) (word_ended : length (side_word T f.relation) ≤ f.place)
+    (some : 1 ≤ n) (few : n ≤ f.times) (ended : f.copies ≡ 0) (word_ended : f.syllables ≤ f.place)
     (whole : syllables ≡ length (side_word T (Commutator f.next f.generator))) (one_or_empty : (n ≡ 1) ⊎ (syllables ≡ 0))
     (added : e' ≡ with_state e (add_row_times T.presentation.prime (row_of T.tails (tail_of T (Commutator f.next f.generator))) n e.state)) where
   side-one_or_empty : (n ≡ 1) ⊎ ((side_with_tail T (Commutator f.next f.generator)).word ≡ [])
@@ -105,12 +105,13 @@ module _ (T : TailedPresentation) (f : Frame) (h : IsFrame T f) (e e' : Element)
       let within = h.within in
       let from_one = h.from_one (omega arith) in
       let few_times = h.few_times in
+      let syllables_before = h.whole in
       let side : Configuration = side_with_tail T (Commutator f.next f.generator) in
       let numbered = commutator_side-numbered T is f.next f.generator from_one order (omega arith) in
       let short = length-side_word T is (Commutator f.next f.generator) (from_one, order, omega arith) in
       let nothing : letters_owed T f ≡ [] =
       ap (λ (k : ℕ). replicate k (f.letter - 1) ++ places_of (drop f.place (side_word T f.relation))) ended
-      ∙ ap places_of (drop_of_length-le (side_word T f.relation) word_ended) in
+      ∙ ap places_of (drop_of_length-le (side_word T f.relation) (omega arith)) in
       let begun : passing T f.generator (replicate n (f.next - 1)) e ≡ pushed T e' (letters_owed T (with_passed f n syllables)) =
       ap (with_state e) (passed-together Y (f.next - 1) (f.generator - 1) side (sym numbered) n side-one_or_empty e.state)
       ∙ ap (λ (z : Element). pushed T z (replicate n (f.next - 1) ++ side.word)) (sym added)

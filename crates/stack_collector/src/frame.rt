@@ -63,7 +63,8 @@ impl Frame {
         requires frame { IsFrame pcp.now self.old }
         requires none_before { self.old.copies ≡ 0 }
         requires more { self.old.place < length (side_word pcp.now self.old.relation) }
-        ensures { GoesOn pcp.now self.old self.new }
+        ensures on { GoesOn pcp.now self.old self.new }
+        ensures some { 1 ≤ self.new.copies }
     {
         let syllable = pcp.word(self.relation)[self.place];
         self.letter = syllable.generator;
@@ -77,7 +78,10 @@ impl Frame {
         requires frame { IsFrame pcp.now self.old }
         requires none_before { self.old.times ≡ 0 }
         requires more { self.old.next < self.old.end }
-        ensures { GoesOn pcp.now self.old self.new }
+        ensures on { GoesOn pcp.now self.old self.new }
+        ensures copies { self.new.copies ≡ self.old.copies }
+        ensures place { self.new.place ≡ self.old.place }
+        ensures syllables { self.new.syllables ≡ self.old.syllables }
     {
         let place = self.next_place();
         self.times = self.later[place as usize];

@@ -7,7 +7,7 @@ ghost use Rattle.stack_collector.specs.Frames.{pushed, finished, IsFrame};
 ghost use Rattle.stack_collector.specs.Stacks.{IsReady, IsRunning, Continues, HasEnded};
 
 use crate::frame::Frame;
-use crate::steps::{Progress, begin, step};
+use crate::steps::{Progress, begin, run};
 use pc_presentation::{Collect, Elem, Pcp, Syllable, add_tail};
 use pq_base::NoMemory;
 use std::alloc::Global;
@@ -74,8 +74,8 @@ impl Stack {
         while self.advance(pcp, at) {}
     }
 
-    /// Does the next thing that the last frame owes, and says whether there is a frame. Where that is a push, its frame becomes
-    /// the last; where the frame owes nothing, the one before it does.
+    /// Does what the last frame owes, up to a push, whose frame becomes the last, or to its end, where the one before it does. The
+    /// answer is whether there was a frame.
     fn advance(&mut self, pcp: &Pcp, at: &mut Elem) -> bool
         requires running { IsRunning pcp.now self.old at.old }
         ensures on { IsTrue result → Continues pcp.now self.old at.old self.new at.new }
@@ -85,7 +85,7 @@ impl Stack {
             return false;
         }
         let last = self.frames.len() - 1;
-        match step(pcp, at, &mut self.frames[last]) {
+        match run(pcp, at, &mut self.frames[last]) {
             Progress::Within => (),
             Progress::Push(generator) => self.put(begin(pcp, at, generator)),
             Progress::Done => self.frames.truncate(last),

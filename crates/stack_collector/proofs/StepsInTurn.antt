@@ -1,5 +1,5 @@
 -- Steps of a frame one after the other are a step, and what was done so far leads to the same end.
-use Rattle.std.proofs.Common.{◌≤◌, ℕ, refl, ◌∙◌, arith, ◌≡◌}
+use Rattle.std.proofs.Common.{◌≤◌, refl, ◌∙◌, arith, ◌≡◌}
 use Rattle.pc_presentation.specs.Pcp.{TailedPresentation}
 use Rattle.pc_presentation.specs.Tailed.{Element, IsElement}
 use Rattle.stack_collector.specs.declared.frame.Frame.{Frame}

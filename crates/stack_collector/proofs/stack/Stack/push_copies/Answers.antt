@@ -1,4 +1,4 @@
-use Rattle.std.proofs.Common.{◌≡◌, ◌-◌, ℕ, replicate, ap, sym, ◌∙◌, arith}
+use Rattle.std.proofs.Common.{◌≡◌, ◌-◌, ℕ, replicate, ap, ◌∙◌, arith}
 use Rattle.stack_collector.specs.Frames.{pushed}
 use Rattle.stack_collector.proofs.stack.Stack.push_copies.Goals as goal
 

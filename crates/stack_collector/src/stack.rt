@@ -7,7 +7,7 @@ ghost use Rattle.stack_collector.specs.Frames.{pushed, finished, IsFrame};
 ghost use Rattle.stack_collector.specs.Stacks.{IsReady, IsRunning, Continues, HasEnded};
 
 use crate::frame::Frame;
-use crate::steps::{Progress, add_copies, begin, run};
+use crate::steps::{Progress, begin, run};
 use pc_presentation::{Collect, Elem, Pcp, Syllable, add_tail};
 use pq_base::NoMemory;
 use std::alloc::Global;
@@ -60,24 +60,8 @@ impl Collect for Stack {
 }
 
 impl Stack {
-    /// Pushes copies of a generator, counted from 1: those that can't be added at once from a frame of their own.
+    /// Pushes copies of a generator, counted from 1.
     fn push_copies(&mut self, pcp: &Pcp, at: &mut Elem, generator: u16, copies: u8)
-        requires ready { IsReady self.old pcp.now.presentation.rank }
-        requires element { IsElement pcp.now at.old }
-        requires from_one { 1 ≤ generator }
-        requires in_range { generator ≤ pcp.now.presentation.rank }
-        ensures ready { IsReady self.new pcp.now.presentation.rank }
-        ensures element { IsElement pcp.now at.new }
-        ensures pushed { at.new ≡ pushed pcp.now at.old (replicate copies (generator - 1)) }
-    {
-        let left = add_copies(pcp, at, generator, copies);
-        if left > 0 {
-            self.push_by_frames(pcp, at, generator, left);
-        }
-    }
-
-    /// Pushes copies of a generator from a frame, and all that this leads to.
-    fn push_by_frames(&mut self, pcp: &Pcp, at: &mut Elem, generator: u16, copies: u8)
         requires ready { IsReady self.old pcp.now.presentation.rank }
         requires element { IsElement pcp.now at.old }
         requires from_one { 1 ≤ generator }

@@ -150,7 +150,7 @@ fn push_letter(pcp: &Pcp, at: &mut Elem, frame: &mut Frame) -> Progress
 /// Adds copies of a generator, counted from 1, to its exponent, and gives how many are left: all where it doesn't commute with
 /// each later letter that the element has, and else those that take the exponent past the prime, unless the right side of the
 /// power is empty.
-pub(crate) fn add_copies(pcp: &Pcp, at: &mut Elem, generator: u16, copies: u8) -> u8
+fn add_copies(pcp: &Pcp, at: &mut Elem, generator: u16, copies: u8) -> u8
     requires element { IsElement pcp.now at.old }
     requires from_one { 1 ≤ generator }
     requires in_range { generator ≤ pcp.now.presentation.rank }

@@ -1,7 +1,7 @@
 use Rattle.std.proofs.Common.{◌≡◌, ◌-◌, replicate}
 use Rattle.stack_collector.specs.Frames.{pushed}
 use Rattle.stack_collector.specs.Stacks.{IsRunning, all_finished, work}
-use Rattle.stack_collector.proofs.stack.Stack.push_by_frames.Given as goal
+use Rattle.stack_collector.proofs.stack.Stack.push_copies.Given as goal
 
 -- what is owed leads to the same end
 abbrev pub invariant-loop : goal.invariant-loop

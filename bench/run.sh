@@ -73,12 +73,13 @@ per_second() {
 
 products() {
     rustc -O -o "$work/products" bench/products.rs
-    for group in "8 3" "14 2"; do
+    for group in "8 3" "14 2" "8 5" "6 7"; do
         # shellcheck disable=SC2086
         set -- $group
-        ours=$(seconds "$measured" products "$1" "$2" 20000)
+        plain=$(seconds "$measured" plain_products "$1" "$2" 20000)
+        stack=$(seconds "$measured" stack_products "$1" "$2" 20000)
         theirs=$(seconds "$work/products" "$1" "$2" 20000)
-        echo "products: unitriangular matrices of size $1 modulo $2, $(per_second 20000 "$ours") a second, rustc -O $(per_second 20000 "$theirs") a second, ratio $(ratio "$ours" "$theirs")"
+        echo "products: unitriangular matrices of size $1 modulo $2, $(per_second 20000 "$stack") a second from the stack, $(per_second 20000 "$plain") by recursion, rustc -O $(per_second 20000 "$theirs"), ratio $(ratio "$stack" "$theirs")"
     done
 }
 

@@ -7,8 +7,10 @@ mod products;
 mod rows;
 mod unitriangular;
 
-use pc_presentation::PcpRefusal;
+use pc_presentation::{Pcp, PcpRefusal};
+use plain_collector::Plain;
 use pq_base::{NoMemory, Prime};
+use stack_collector::Stack;
 use std::alloc::Global;
 use std::num::TryFromIntError;
 use std::process::ExitCode;
@@ -17,7 +19,8 @@ use std::{env, io};
 /// Why nothing was measured.
 #[derive(Clone, Copy, Debug, PartialEq, Eq)]
 enum Failure {
-    /// The words are `rows N`, `basis N` with N below 2^16, or `products SIZE PRIME COUNT` with SIZE from 2 to 14.
+    /// The words are `rows N`, `basis N` with N below 2^16, or `plain_products SIZE PRIME COUNT` or `stack_products SIZE PRIME COUNT`
+    /// with SIZE from 2 to 14, for the collector of that name.
     Words,
     /// Nothing could be allocated.
     NoMemory,
@@ -82,11 +85,20 @@ fn done(alloc: Global, work: &str, numbers: &[u32]) -> Result<u32, Failure> {
     match (work, numbers) {
         ("rows", [count]) => Ok(rows::added(alloc, *count)?),
         ("basis", [count]) => Ok(basis::inserted(alloc, u16::try_from(*count)?)?),
-        ("products", [size, prime, count]) => {
-            let prime = Prime::of(u8::try_from(*prime)?).ok_or(Failure::Words)?;
-            let pcp = unitriangular::unitriangular(alloc, u16::try_from(*size)?, prime)?;
-            Ok(products::multiplied(alloc, &pcp, *count)?)
+        ("plain_products", [size, prime, count]) => {
+            let pcp = matrices(alloc, *size, *prime)?;
+            Ok(products::multiplied::<Plain>(alloc, &pcp, *count)?)
+        }
+        ("stack_products", [size, prime, count]) => {
+            let pcp = matrices(alloc, *size, *prime)?;
+            Ok(products::multiplied::<Stack>(alloc, &pcp, *count)?)
         }
         _ => Err(Failure::Words),
     }
+}
+
+/// The unitriangular matrices of a size modulo a prime.
+fn matrices(alloc: Global, size: u32, prime: u32) -> Result<Pcp, Failure> {
+    let prime = Prime::of(u8::try_from(prime)?).ok_or(Failure::Words)?;
+    unitriangular::unitriangular(alloc, u16::try_from(size)?, prime)
 }

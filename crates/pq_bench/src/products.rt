@@ -1,16 +1,19 @@
-//! Products of elements by the plain rule.
+//! Products of elements by a collector.
 
 ghost use Rattle.pc_presentation.specs.Tailed.{IsElement};
 
 use crate::numbers::{next, residue};
-use pc_presentation::{Elem, Pcp, Scratch, product};
-use plain_collector::Plain;
+use pc_presentation::{Collect, Elem, Pcp, Scratch, product};
 use pq_base::NoMemory;
 use std::alloc::Global;
 
 /// Multiplies an element by another so many times, and gives the sum of the exponents.
-pub fn multiplied(alloc: Global, pcp: &Pcp, count: u32) -> Result<u32, NoMemory> {
-    let mut scratch = Scratch::<Plain>::new(alloc, pcp)?;
+pub fn multiplied<C: Collect + Drop>(
+    alloc: Global,
+    pcp: &Pcp,
+    count: u32,
+) -> Result<u32, NoMemory> {
+    let mut scratch = Scratch::<C>::new(alloc, pcp)?;
     let mut at = Elem::one(alloc, pcp)?;
     let mut factor = Elem::one(alloc, pcp)?;
     let mut out = Elem::one(alloc, pcp)?;

@@ -15,9 +15,9 @@ use crate::input::{Input, read_input};
 use crate::refusal::Refusal;
 use derivation_log::NoLog;
 use lpres_reader::read;
-use plain_collector::Plain;
 use pq_base::Prime;
 use pq_io::Source;
+use stack_collector::Stack;
 use std::alloc::Global;
 use tower::largest;
 
@@ -59,6 +59,6 @@ fn output_of_text(
 {
     let pres = read(alloc, text)?;
     let _names = pres.names();
-    let answer = largest::<Plain, NoLog>(alloc, &pres, prime, class, &mut NoLog)?;
+    let answer = largest::<Stack, NoLog>(alloc, &pres, prime, class, &mut NoLog)?;
     Ok(write_answer(alloc, form, &answer)?)
 }

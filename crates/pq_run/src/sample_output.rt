@@ -7,8 +7,8 @@ ghost use Rattle.pq_run.specs.Cause.{IsSampleCause};
 
 use crate::refusal::Refusal;
 use derivation_log::NoLog;
-use plain_collector::Plain;
 use samples::{SAMPLE_CLASS, sample, sample_prime, summary};
+use stack_collector::Stack;
 use std::alloc::Global;
 use tower::largest;
 
@@ -21,6 +21,6 @@ pub fn output_of_sample(alloc: Global, n: u32) -> Result<Vec<u8>, Refusal>
 {
     let pres = sample(alloc, n)?;
     let prime = sample_prime(n);
-    let answer = largest::<Plain, NoLog>(alloc, &pres, prime, SAMPLE_CLASS, &mut NoLog)?;
+    let answer = largest::<Stack, NoLog>(alloc, &pres, prime, SAMPLE_CLASS, &mut NoLog)?;
     Ok(summary(alloc, n, &answer)?)
 }

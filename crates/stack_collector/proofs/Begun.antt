@@ -35,25 +35,26 @@ raised-past T e m e' g h one last past p q =
     (sym (eq-eqb (suc (get_or e.state.exponents (g - 1) 0)) T.presentation.prime past))
 
 -- the frame of the push of generator g, before place z
-abbrev pub begun_frame : ℕ → ℕ → ℕ → List ℕ → Frame
-begun_frame g z place later = record {
+abbrev pub begun_frame : ℕ → ℕ → ℕ → ℕ → List ℕ → Frame
+begun_frame g z place syllables later = record {
   generator = g;
   letter = g;
   copies = 0;
   relation = Power g;
   place = place;
+  syllables = syllables;
   next = g;
   times = 0;
   later = later;
   end = z;
 }
 
-module _ (T : TailedPresentation) (e : Element) (h : IsElement T e) (g z place : ℕ) (later : List ℕ) (one : 1 ≤ g) (last : g ≤ T.presentation.rank)
+module _ (T : TailedPresentation) (e : Element) (h : IsElement T e) (g z place syllables : ℕ) (later : List ℕ) (one : 1 ≤ g) (last : g ≤ T.presentation.rank)
     (first : IsFirstCommuting (rowed_presentation T) (g - 1) z) where
   pub begun-pushes : (c r : Element) → AreBetween g z e.state.exponents later
       → c ≡ with_state e (record { exponents = cleared_between (g - 1) z e.state.exponents; row = e.state.row })
       → pushed T r (places_of (drop place (side_word T (Power g)))) ≡ with_state c (raised (rowed_presentation T) c.state (g - 1))
-      → finished T (begun_frame g z place later) r ≡ with_state e (plain_push (rowed_presentation T) e.state (g - 1))
+      → finished T (begun_frame g z place syllables later) r ≡ with_state e (plain_push (rowed_presentation T) e.state (g - 1))
   begun-pushes c r between p q =
       let Y : RowedPresentation = rowed_presentation T in
       let count : length e.state.exponents ≡ T.presentation.rank = h.state.exponents.count in

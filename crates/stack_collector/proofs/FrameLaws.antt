@@ -30,7 +30,13 @@ length-side_word T is r h =
     let limit = is.rank_limit in
     omega arith
 
--- exponents of a right side are below the prime
+-- exponents of a right side are positive, and below the prime
+pub exponent-some : (k : ℕ) (e : List ℕ) (m : ℕ) (d : Syllable) → m < length (syllables_of k e) → 1 ≤ (get_or (syllables_of k e) m d).exponent
+exponent-some k [] m d l = absurd (omega arith)
+exponent-some k (zero ∷ es) m d l = exponent-some (suc k) es m d l
+exponent-some k (suc x ∷ es) zero d l = omega arith
+exponent-some k (suc x ∷ es) (suc m) d l = exponent-some (suc k) es m d (omega arith)
+
 exponent-below : (p k : ℕ) (e : List ℕ) (m : ℕ) (d : Syllable) → AllBelow p e → m < length (syllables_of k e) → (get_or (syllables_of k e) m d).exponent < p
 exponent-below p k [] m d h l = absurd (omega arith)
 exponent-below p k (zero ∷ es) m d h l = exponent-below p (suc k) es m d h.1 l
@@ -60,6 +66,19 @@ copies-behind T e e' n m i few q =
     ∙ ap (pushed T e) (replicate-append-replicate m (n - m) i)
     ∙ ap (λ (k : ℕ). pushed T e (replicate k i)) all
 
+-- exponents that are 0 spell nothing
+spelled-past_zeros : (n k : ℕ) (xs : List ℕ) → k + n ≤ length xs → ((j : ℕ) → k ≤ j → j < k + n → get_or xs j 0 ≡ 0)
+    → spelled k (drop k xs) ≡ spelled (k + n) (drop (k + n) xs)
+spelled-past_zeros zero k xs l zeros = let same : k ≡ k + 0 = omega arith in ap (λ (m : ℕ). spelled m (drop m xs)) same
+spelled-past_zeros (suc n) k xs l zeros =
+    let next : k + 1 ≡ suc k = omega arith in
+    let last : suc k + n ≡ k + suc n = omega arith in
+    ap (spelled k) (drop_more xs k 0 (omega arith))
+    ∙ ap (λ (x : ℕ). replicate x k ++ spelled (suc k) (drop (k + 1) xs)) (zeros k (omega arith) (omega arith))
+    ∙ ap (λ (m : ℕ). spelled (suc k) (drop m xs)) next
+    ∙ spelled-past_zeros n (suc k) xs (omega arith) (λ j a b. zeros j (omega arith) (omega arith))
+    ∙ ap (λ (m : ℕ). spelled m (drop m xs)) last
+
 -- a frame that goes on alone, while the element stays
 pub within-alone : (T : TailedPresentation) (f g : Frame) (e : Element) → IsElement T e → GoesOn T f g → IsWithin T f e g e
 within-alone T f g e element h = record { element = element; frame = h.frame; generator = h.generator; same = h.same e; less = h.less }
@@ -67,8 +86,8 @@ within-alone T f g e element h = record { element = element; frame = h.frame; ge
 abbrev pub with_syllable : Frame → Syllable → Frame
 with_syllable f s = record f { letter = s.generator; copies = s.exponent; place = f.place + 1 }
 
-abbrev pub with_exponent_taken : Frame → ℕ → Frame
-with_exponent_taken f x = record f { times = x; next = f.next + 1 }
+abbrev pub with_exponent_taken : Frame → ℕ → ℕ → Frame
+with_exponent_taken f m x = record f { times = x; next = m + 1 }
 
 abbrev pub with_copies : Frame → ℕ → Frame
 with_copies f n = record f { copies = n }
@@ -110,6 +129,7 @@ module _ (T : TailedPresentation) (is : IsTailedPresentation T) where
             relation = h.relation;
             side = h.side;
             place = omega arith;
+            whole = h.whole;
             saved = h.saved;
             few_copies = omega arith;
             few_times = h.few_times;
@@ -119,22 +139,28 @@ module _ (T : TailedPresentation) (is : IsTailedPresentation T) where
           less = omega arith;
         }
 
-    pub exponent-taken : (x : ℕ) → f.times ≡ 0 → f.next < f.end → x ≡ get_or f.later f.next 0 → x ≤ 255 → GoesOn T f (with_exponent_taken f x)
-    exponent-taken x none more q few =
+    -- those before place m are 0
+    pub exponent-taken : (m x : ℕ) → f.times ≡ 0 → f.next ≤ m → m < f.end → ((k : ℕ) → f.next ≤ k → k < m → get_or f.later k 0 ≡ 0)
+        → x ≡ get_or f.later m 0 → x ≤ 255 → GoesOn T f (with_exponent_taken f m x)
+    exponent-taken m x none from more zeros q few =
         let xs : List ℕ = take f.end f.later in
         let limit = is.rank_limit in
         let saved = h.saved in
         let within = h.within in
         let order = h.order in
         let long : length (take f.end f.later) ≡ f.end = length-take-le f.end f.later (omega arith) in
-        let entry : x ≡ get_or (take f.end f.later) f.next 0 = q ∙ sym (get_or-take f.end f.later f.next 0 more) in
-        let place : (f.next + 1) - 1 ≡ f.next = omega arith in
-        let next : f.next + 1 ≡ suc f.next = omega arith in
-        let letters : letters_to_pass (with_exponent_taken f x) ≡ letters_to_pass f =
-        ap (λ (i : ℕ). replicate x i ++ spelled (f.next + 1) (drop (f.next + 1) xs)) place
-        ∙ ap (λ (n : ℕ). replicate n f.next ++ spelled (f.next + 1) (drop (f.next + 1) xs)) entry
-        ∙ ap (λ (k : ℕ). replicate (get_or xs f.next 0) f.next ++ spelled k (drop (f.next + 1) xs)) next
-        ∙ ap (spelled f.next) (sym (drop_more xs f.next 0 (omega arith)))
+        let entry : x ≡ get_or (take f.end f.later) m 0 = q ∙ sym (get_or-take f.end f.later m 0 more) in
+        let place : (m + 1) - 1 ≡ m = omega arith in
+        let next : m + 1 ≡ suc m = omega arith in
+        let there : f.next + (m - f.next) ≡ m = omega arith in
+        let letters : letters_to_pass (with_exponent_taken f m x) ≡ letters_to_pass f =
+        ap (λ (i : ℕ). replicate x i ++ spelled (m + 1) (drop (m + 1) xs)) place
+        ∙ ap (λ (n : ℕ). replicate n m ++ spelled (m + 1) (drop (m + 1) xs)) entry
+        ∙ ap (λ (k : ℕ). replicate (get_or xs m 0) m ++ spelled k (drop (m + 1) xs)) next
+        ∙ ap (spelled m) (sym (drop_more xs m 0 (omega arith)))
+        ∙ ap (λ (k : ℕ). spelled k (drop k xs)) (sym there)
+        ∙ sym (spelled-past_zeros (m - f.next) f.next xs (omega arith)
+        (λ k a b. get_or-take f.end f.later k 0 (omega arith) ∙ zeros k a (omega arith)))
         ∙ ap (λ (n : ℕ). replicate n (f.next - 1) ++ spelled f.next (drop f.next xs)) (sym none) in
         record {
           frame = record {
@@ -148,6 +174,7 @@ module _ (T : TailedPresentation) (is : IsTailedPresentation T) where
             relation = h.relation;
             side = h.side;
             place = h.place;
+            whole = h.whole;
             saved = h.saved;
             few_copies = h.few_copies;
             few_times = few;
@@ -171,6 +198,7 @@ module _ (T : TailedPresentation) (is : IsTailedPresentation T) where
           relation = h.relation;
           side = h.side;
           place = h.place;
+          whole = h.whole;
           saved = h.saved;
           few_copies = omega arith;
           few_times = h.few_times;

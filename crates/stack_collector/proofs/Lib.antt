@@ -1,4 +1,5 @@
 pub mod Begun
 pub mod FrameLaws
+pub mod StepsInTurn
 pub mod Passes
 pub mod StackLaws

@@ -67,22 +67,29 @@ relation-passed T f h some =
     (h.from_one (omega arith), order, omega arith)
 
 -- the frame that has begun to pass n copies
-abbrev pub with_passed : Frame → ℕ → Frame
-with_passed f n = record f { letter = f.next; copies = n; relation = Commutator f.next f.generator; place = 0; times = f.times - n }
+abbrev pub with_passed : Frame → ℕ → ℕ → Frame
+with_passed f n syllables = record f {
+  letter = f.next;
+  copies = n;
+  relation = Commutator f.next f.generator;
+  place = 0;
+  syllables = syllables;
+  times = f.times - n;
+}
 
-module _ (T : TailedPresentation) (f : Frame) (h : IsFrame T f) (e e' : Element) (element : IsElement T e') (n : ℕ)
-    (some : 1 ≤ n) (few : n ≤ f.times) (ended : f.copies ≡ 0) (word_ended : length (side_word T f.relation) ≤ f.place)
-    (one_or_empty : (n ≡ 1) ⊎ (length (side_word T (Commutator f.next f.generator)) ≡ 0))
+module _ (T : TailedPresentation) (f : Frame) (h : IsFrame T f) (e e' : Element) (element : IsElement T e') (n syllables : ℕ)
+    (some : 1 ≤ n) (few : n ≤ f.times) (ended : f.copies ≡ 0) (word_ended : f.syllables ≤ f.place)
+    (whole : syllables ≡ length (side_word T (Commutator f.next f.generator))) (one_or_empty : (n ≡ 1) ⊎ (syllables ≡ 0))
     (added : e' ≡ with_state e (add_row_times T.presentation.prime (row_of T.tails (tail_of T (Commutator f.next f.generator))) n e.state)) where
   side-one_or_empty : (n ≡ 1) ⊎ ((side_with_tail T (Commutator f.next f.generator)).word ≡ [])
   side-one_or_empty = elim one_or_empty [
     | inl one ↦ inl one
     | inr empty ↦
         inr (sym (places_of-syllables_of f.next (right_side T.presentation (Commutator f.next f.generator)))
-        ∙ ap places_of (no_syllables (side_word T (Commutator f.next f.generator)) empty))
+        ∙ ap places_of (no_syllables (side_word T (Commutator f.next f.generator)) (sym whole ∙ empty)))
   ]
 
-  letters-split : letters_to_pass f ≡ replicate n (f.next - 1) ++ letters_to_pass (with_passed f n)
+  letters-split : letters_to_pass f ≡ replicate n (f.next - 1) ++ letters_to_pass (with_passed f n syllables)
   letters-split =
       let all : n + (f.times - n) ≡ f.times = omega arith in
       let rest : List ℕ = spelled f.next (drop f.next (take f.end f.later)) in
@@ -90,7 +97,7 @@ module _ (T : TailedPresentation) (f : Frame) (h : IsFrame T f) (e e' : Element)
       ∙ ap (λ (u : List ℕ). u ++ rest) (sym (replicate-append-replicate n (f.times - n) (f.next - 1)))
       ∙ append_assoc (replicate n (f.next - 1)) (replicate (f.times - n) (f.next - 1)) rest
 
-  pub passes-begun : IsTailedPresentation T → IsWithin T f e (with_passed f n) e'
+  pub passes-begun : IsTailedPresentation T → IsWithin T f e (with_passed f n syllables) e'
   passes-begun is =
       let Y : RowedPresentation = rowed_presentation T in
       let order = h.times (omega arith) in
@@ -98,13 +105,14 @@ module _ (T : TailedPresentation) (f : Frame) (h : IsFrame T f) (e e' : Element)
       let within = h.within in
       let from_one = h.from_one (omega arith) in
       let few_times = h.few_times in
+      let syllables_before = h.whole in
       let side : Configuration = side_with_tail T (Commutator f.next f.generator) in
       let numbered = commutator_side-numbered T is f.next f.generator from_one order (omega arith) in
       let short = length-side_word T is (Commutator f.next f.generator) (from_one, order, omega arith) in
       let nothing : letters_owed T f ≡ [] =
       ap (λ (k : ℕ). replicate k (f.letter - 1) ++ places_of (drop f.place (side_word T f.relation))) ended
-      ∙ ap places_of (drop_of_length-le (side_word T f.relation) word_ended) in
-      let begun : passing T f.generator (replicate n (f.next - 1)) e ≡ pushed T e' (letters_owed T (with_passed f n)) =
+      ∙ ap places_of (drop_of_length-le (side_word T f.relation) (omega arith)) in
+      let begun : passing T f.generator (replicate n (f.next - 1)) e ≡ pushed T e' (letters_owed T (with_passed f n syllables)) =
       ap (with_state e) (passed-together Y (f.next - 1) (f.generator - 1) side (sym numbered) n side-one_or_empty e.state)
       ∙ ap (λ (z : Element). pushed T z (replicate n (f.next - 1) ++ side.word)) (sym added)
       ∙ ap (λ (w : List ℕ). pushed T e' (replicate n (f.next - 1) ++ w))
@@ -122,15 +130,16 @@ module _ (T : TailedPresentation) (f : Frame) (h : IsFrame T f) (e e' : Element)
           relation = (from_one, order, omega arith);
           side = omega arith;
           place = omega arith;
+          whole = whole;
           saved = h.saved;
           few_copies = omega arith;
           few_times = omega arith;
         };
         generator = refl;
         same =
-            ap (passing T f.generator (letters_to_pass (with_passed f n))) (sym begun)
+            ap (passing T f.generator (letters_to_pass (with_passed f n syllables))) (sym begun)
             ∙ ap (with_state e)
-            (sym (push_word-append (passed Y (f.generator - 1)) e.state (replicate n (f.next - 1)) (letters_to_pass (with_passed f n))))
+            (sym (push_word-append (passed Y (f.generator - 1)) e.state (replicate n (f.next - 1)) (letters_to_pass (with_passed f n syllables))))
             ∙ ap (λ (v : List ℕ). passing T f.generator v e) (sym letters-split)
             ∙ ap (λ (u : List ℕ). passing T f.generator (letters_to_pass f) (pushed T e u)) (sym nothing);
         less = omega arith;

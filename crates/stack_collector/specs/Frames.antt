@@ -45,6 +45,7 @@ pub record IsFrame (T : TailedPresentation) (f : Frame) : Type 0 where
   pub relation : IsRelation T.presentation.rank f.relation
   pub side : f.generator ≤ side_start f.relation
   pub place : f.place ≤ length (side_word T f.relation)
+  pub whole : f.syllables ≡ length (side_word T f.relation)
   pub saved : length f.later ≡ max_rank
   pub few_copies : f.copies ≤ 255
   pub few_times : f.times ≤ 255

@@ -5,15 +5,15 @@ use Rattle.pc_presentation.specs.Tailed.{Element, IsElement}
 use Rattle.stack_collector.specs.declared.frame.Frame.{Frame}
 use Rattle.stack_collector.specs.Frames.{finished, IsFrame, effort}
 
--- what contracts see of the collector: the frames that wait, and how many there is room for
-pub record Waiting : Type 0 where
+-- what contracts see of the collector: its frames, and how many there is room for
+pub record Frames : Type 0 where
   pub frames : List Frame
   pub room : ℕ
 
--- no frame waits, and there is room for those of n generators
-pub record IsReady (w : Waiting) (n : ℕ) : Type 0 where
+-- there is no frame, and room for those of n generators and one below all
+pub record IsReady (w : Frames) (n : ℕ) : Type 0 where
   pub none : w.frames ≡ []
-  pub room : n ≤ w.room
+  pub room : suc n ≤ w.room
 
 -- frames with rising generators, from a on and before g
 abbrev pub AreRising : TailedPresentation → ℕ → List Frame → ℕ → Type 0
@@ -25,12 +25,11 @@ abbrev pub all_finished : TailedPresentation → List Frame → Element → Elem
 all_finished T [] e = e
 all_finished T (f ∷ fs) e = finished T f (all_finished T fs e)
 
--- frames wait below one that works at an element
-pub record IsRunning (T : TailedPresentation) (w : Waiting) (f : Frame) (e : Element) : Type 0 where
+-- the last of the frames works at an element
+pub record IsRunning (T : TailedPresentation) (w : Frames) (e : Element) : Type 0 where
   pub element : IsElement T e
-  pub frame : IsFrame T f
-  pub rising : AreRising T 0 w.frames f.generator
-  pub room : T.presentation.rank ≤ w.room
+  pub rising : AreRising T 0 w.frames (suc T.presentation.rank)
+  pub room : suc T.presentation.rank ≤ w.room
 
 -- a frame counts more than all that later generators can owe
 abbrev pub scale : ℕ → ℕ
@@ -46,14 +45,13 @@ work T [] = 0
 work T (f ∷ fs) = work_of T f + work T fs
 
 -- the work goes on, to the same end
-pub record Continues (T : TailedPresentation) (w : Waiting) (f : Frame) (e : Element) (w' : Waiting) (f' : Frame) (e' : Element)
-    : Type 0 where
-  pub running : IsRunning T w' f' e'
-  pub same : all_finished T w'.frames (finished T f' e') ≡ all_finished T w.frames (finished T f e)
-  pub less : work T w'.frames + work_of T f' < work T w.frames + work_of T f
+pub record Continues (T : TailedPresentation) (w : Frames) (e : Element) (w' : Frames) (e' : Element) : Type 0 where
+  pub running : IsRunning T w' e'
+  pub same : all_finished T w'.frames e' ≡ all_finished T w.frames e
+  pub less : work T w'.frames < work T w.frames
 
 -- the end is reached
-pub record HasEnded (T : TailedPresentation) (w : Waiting) (f : Frame) (e : Element) (w' : Waiting) (e' : Element) : Type 0 where
+pub record HasEnded (T : TailedPresentation) (w : Frames) (e : Element) (w' : Frames) (e' : Element) : Type 0 where
   pub ready : IsReady w' T.presentation.rank
   pub element : IsElement T e'
-  pub same : e' ≡ all_finished T w.frames (finished T f e)
+  pub same : e' ≡ all_finished T w.frames e

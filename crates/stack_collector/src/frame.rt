@@ -1,6 +1,6 @@
 //! Frames: what a push that was begun still owes.
 
-ghost use Rattle.std.specs.Prelude.{◌≡◌, ◌≤◌, ◌<◌, ◌-◌, length, replicate};
+ghost use Rattle.std.specs.Prelude.{◌≡◌, ◌≤◌, ◌<◌, ◌-◌, ℕ, get_or, length, replicate};
 ghost use Rattle.pc_presentation.specs.Pcp.{IsTailedPresentation};
 ghost use Rattle.pc_presentation.specs.Collection.{plain_push};
 ghost use Rattle.pc_presentation.specs.Tailed.{rowed_presentation, Element};
@@ -19,9 +19,10 @@ pub(crate) struct Frame {
     /// Copies of this letter are to be pushed first.
     pub(crate) letter: u16,
     pub(crate) copies: u8,
-    /// The relation, and the number of the first syllable of its word that is still to be pushed.
+    /// The relation, the number of the first syllable of its word that is still to be pushed, and how many the word has.
     pub(crate) relation: Relation,
     pub(crate) place: usize,
+    pub(crate) syllables: usize,
     /// So many copies of generator `next` are to be passed, and then the letters after it.
     pub(crate) next: u16,
     pub(crate) times: u8,
@@ -41,12 +42,14 @@ impl Frame {
             finished pcp.now result e ≡ pushed pcp.now e (replicate copies (generator - 1)) }
     {
         let relation = Relation::Power(generator);
+        let syllables = pcp.word(relation).len();
         Frame {
             generator: 0,
             letter: generator,
             copies,
             relation,
-            place: pcp.word(relation).len(),
+            place: syllables,
+            syllables,
             next: 0,
             times: 0,
             later: [0; RANK],
@@ -60,7 +63,8 @@ impl Frame {
         requires frame { IsFrame pcp.now self.old }
         requires none_before { self.old.copies ≡ 0 }
         requires more { self.old.place < length (side_word pcp.now self.old.relation) }
-        ensures { GoesOn pcp.now self.old self.new }
+        ensures on { GoesOn pcp.now self.old self.new }
+        ensures some { 1 ≤ self.new.copies }
     {
         let syllable = pcp.word(self.relation)[self.place];
         self.letter = syllable.generator;
@@ -68,15 +72,34 @@ impl Frame {
         self.place += 1;
     }
 
-    /// Takes the exponent of the next generator that was set aside.
+    /// Takes the next exponent that was set aside and isn't 0, or the last.
     pub(crate) fn take_exponent(&mut self, pcp: &Pcp)
         requires presentation { IsTailedPresentation pcp.now }
         requires frame { IsFrame pcp.now self.old }
         requires none_before { self.old.times ≡ 0 }
         requires more { self.old.next < self.old.end }
-        ensures { GoesOn pcp.now self.old self.new }
+        ensures on { GoesOn pcp.now self.old self.new }
+        ensures copies { self.new.copies ≡ self.old.copies }
+        ensures place { self.new.place ≡ self.old.place }
+        ensures syllables { self.new.syllables ≡ self.old.syllables }
     {
-        self.times = self.later[self.next as usize];
-        self.next += 1;
+        let place = self.next_place();
+        self.times = self.later[place as usize];
+        self.next = place + 1;
+    }
+
+    /// The place of the next exponent that was set aside and isn't 0, or of the last.
+    fn next_place(&self) -> u16
+        requires more { self.now.next < self.now.end }
+        requires saved { self.now.end ≤ length self.now.later }
+        ensures from { self.now.next ≤ result }
+        ensures before_end { result < self.now.end }
+        ensures zeros { (k : ℕ) → self.now.next ≤ k → k < result → get_or self.now.later k 0 ≡ 0 }
+    {
+        let mut place = self.next;
+        while place + 1 < self.end && self.later[place as usize] == 0 {
+            place += 1;
+        }
+        place
     }
 }

@@ -7,25 +7,26 @@ ghost use Rattle.stack_collector.specs.Frames.{pushed, finished, IsFrame};
 ghost use Rattle.stack_collector.specs.Stacks.{IsReady, IsRunning, Continues, HasEnded};
 
 use crate::frame::Frame;
-use crate::steps::{Progress, begin, step};
+use crate::steps::{Progress, begin, run};
 use pc_presentation::{Collect, Elem, Pcp, Syllable, add_tail};
 use pq_base::NoMemory;
 use std::alloc::Global;
 use std::marker::Model;
 
-/// The collector that pushes by the plain rule, and keeps a stack of frames that wait. None waits between pushes.
+/// The collector that pushes by the plain rule, and keeps a stack of frames, the last of which works in place. There is none between
+/// pushes.
 #[derive(Debug, Drop)]
 pub struct Stack {
-    waiting: Vec<Frame>,
+    frames: Vec<Frame>,
 }
 
 impl Model for Stack {
     ghost use Rattle.std.specs.Prelude.{vec_capacity};
-    ghost use Rattle.stack_collector.specs.Stacks.{Waiting};
+    ghost use Rattle.stack_collector.specs.Stacks.{Frames};
 
-    ghost Value = { Waiting };
+    ghost Value = { Frames };
 
-    ghost view = { λ s. record { frames = s.waiting.items; room = vec_capacity s.waiting } };
+    ghost view = { λ s. record { frames = s.frames.items; room = vec_capacity s.frames } };
 }
 
 impl Collect for Stack {
@@ -40,7 +41,7 @@ impl Collect for Stack {
     fn fresh(alloc: Global, pcp: &Pcp) -> Result<Stack, NoMemory> {
         let frames = 2 * pcp.rank() as usize + 2;
         Ok(Stack {
-            waiting: Vec::with_capacity(alloc, frames)?,
+            frames: Vec::with_capacity(alloc, frames)?,
         })
     }
 
@@ -69,53 +70,38 @@ impl Stack {
         ensures element { IsElement pcp.now at.new }
         ensures pushed { at.new ≡ pushed pcp.now at.old (replicate copies (generator - 1)) }
     {
-        let mut frame = Frame::of_copies(pcp, generator, copies);
-        while self.advance(pcp, at, &mut frame) {}
+        self.put(Frame::of_copies(pcp, generator, copies));
+        while self.advance(pcp, at) {}
     }
 
-    /// Does the next thing that the frame which works owes. Where that is a push, this frame waits, and that of the push works.
-    /// Where the frame owes nothing, the last that waits works. The answer is whether a frame works.
-    fn advance(&mut self, pcp: &Pcp, at: &mut Elem, frame: &mut Frame) -> bool
-        requires running { IsRunning pcp.now self.old frame.old at.old }
-        ensures on { IsTrue result → Continues pcp.now self.old frame.old at.old self.new frame.new at.new }
-        ensures end { IsFalse result → HasEnded pcp.now self.old frame.old at.old self.new at.new }
+    /// Does what the last frame owes, up to a push, whose frame becomes the last, or to its end, where the one before it does. The
+    /// answer is whether there was a frame.
+    fn advance(&mut self, pcp: &Pcp, at: &mut Elem) -> bool
+        requires running { IsRunning pcp.now self.old at.old }
+        ensures on { IsTrue result → Continues pcp.now self.old at.old self.new at.new }
+        ensures end { IsFalse result → HasEnded pcp.now self.old at.old self.new at.new }
     {
-        match step(pcp, at, frame) {
-            Progress::Within => true,
-            Progress::Push(generator) => {
-                self.suspend(*frame);
-                *frame = begin(pcp, at, generator);
-                true
-            }
-            Progress::Done => self.resume(frame),
+        if self.frames.is_empty() {
+            return false;
         }
+        let last = self.frames.len() - 1;
+        match run(pcp, at, &mut self.frames[last]) {
+            Progress::Within => (),
+            Progress::Push(generator) => self.put(begin(pcp, at, generator)),
+            Progress::Done => self.frames.truncate(last),
+        }
+        true
     }
 
-    /// Lets a frame wait. Takes no memory.
-    fn suspend(&mut self, frame: Frame)
+    /// Puts a frame behind the last. Takes no memory.
+    fn put(&mut self, frame: Frame)
         requires room { length self.old.frames < self.old.room }
         ensures frames { self.new.frames ≡ self.old.frames ++ frame ∷ [] }
         ensures room { self.old.room ≤ self.new.room }
     {
-        match self.waiting.push(frame) {
+        match self.frames.push(frame) {
             Ok(()) => (),
             Err(_) => unreachable!(),
-        }
-    }
-
-    /// Lets the last frame that waits work, and says whether there is one.
-    fn resume(&mut self, frame: &mut Frame) -> bool
-        ensures on { IsTrue result → self.old.frames ≡ self.new.frames ++ frame.new ∷ [] }
-        ensures end { IsFalse result → self.old.frames ≡ [] }
-        ensures none { IsFalse result → self.new.frames ≡ [] }
-        ensures room { self.new.room ≡ self.old.room }
-    {
-        match self.waiting.pop() {
-            Some(last) => {
-                *frame = last;
-                true
-            }
-            None => false,
         }
     }
 }

@@ -46,6 +46,7 @@ pub(crate) fn begin(pcp: &Pcp, at: &mut Elem, generator: u16) -> Frame
         copies: 0,
         relation: Relation::Power(generator),
         place,
+        syllables: pcp.word(Relation::Power(generator)).len(),
         next: generator,
         times: 0,
         later,
@@ -77,26 +78,56 @@ fn raise(pcp: &Pcp, at: &mut Elem, generator: u16) -> usize
     }
 }
 
+/// Does what a frame owes, one thing after the other, up to a push or to its end.
+pub(crate) fn run(pcp: &Pcp, at: &mut Elem, frame: &mut Frame) -> Progress
+    requires element { IsElement pcp.now at.old }
+    requires frame { IsFrame pcp.now frame.old }
+    ensures { IsStep pcp.now frame.old at.old result frame.new at.new }
+{
+    loop {
+        match step(pcp, at, frame) {
+            Progress::Within => (),
+            ended => return ended,
+        }
+    }
+}
+
 /// Does the next thing that a frame owes.
-pub(crate) fn step(pcp: &Pcp, at: &mut Elem, frame: &mut Frame) -> Progress
+fn step(pcp: &Pcp, at: &mut Elem, frame: &mut Frame) -> Progress
     requires element { IsElement pcp.now at.old }
     requires frame { IsFrame pcp.now frame.old }
     ensures { IsStep pcp.now frame.old at.old result frame.new at.new }
 {
     if frame.copies > 0 {
         push_letter(pcp, at, frame)
-    } else if frame.place < pcp.word(frame.relation).len() {
+    } else if frame.place < frame.syllables {
         frame.take_syllable(pcp);
-        Progress::Within
+        push_letter(pcp, at, frame)
     } else if frame.times > 0 {
-        pass(pcp, at, frame);
-        Progress::Within
+        pass_letter(pcp, at, frame)
     } else if frame.next < frame.end {
         frame.take_exponent(pcp);
-        Progress::Within
+        if frame.times > 0 {
+            pass_letter(pcp, at, frame)
+        } else {
+            Progress::Within
+        }
     } else {
         Progress::Done
     }
+}
+
+/// Passes copies of the next letter: adds their tails, and pushes what can be pushed of them at once.
+fn pass_letter(pcp: &Pcp, at: &mut Elem, frame: &mut Frame) -> Progress
+    requires element { IsElement pcp.now at.old }
+    requires frame { IsFrame pcp.now frame.old }
+    requires none_before { frame.old.copies ≡ 0 }
+    requires word_ended { frame.old.syllables ≤ frame.old.place }
+    requires some { 1 ≤ frame.old.times }
+    ensures { IsStep pcp.now frame.old at.old result frame.new at.new }
+{
+    pass(pcp, at, frame);
+    push_letter(pcp, at, frame)
 }
 
 /// Adds what can be added at once of the copies of a letter. Where some are left, the first of them is to be pushed.
@@ -180,32 +211,29 @@ fn pass(pcp: &Pcp, at: &mut Elem, frame: &mut Frame)
     requires element { IsElement pcp.now at.old }
     requires frame { IsFrame pcp.now frame.old }
     requires none_before { frame.old.copies ≡ 0 }
-    requires word_ended { length (side_word pcp.now frame.old.relation) ≤ frame.old.place }
+    requires word_ended { frame.old.syllables ≤ frame.old.place }
     requires some { 1 ≤ frame.old.times }
-    ensures { IsWithin pcp.now frame.old at.old frame.new at.new }
+    ensures within { IsWithin pcp.now frame.old at.old frame.new at.new }
+    ensures some { 1 ≤ frame.new.copies }
 {
     let relation = Relation::Commutator(frame.next, frame.generator);
-    let copies = together(pcp, relation, frame.times);
+    let syllables = pcp.word(relation).len();
+    let copies = together(frame.times, syllables);
     add_tail_times(pcp, at, pcp.tail(relation), copies);
     frame.letter = frame.next;
     frame.copies = copies;
     frame.relation = relation;
     frame.place = 0;
+    frame.syllables = syllables;
     frame.times -= copies;
 }
 
-/// How many of these copies are passed at once: one, or all where the word of the relation is empty.
-fn together(pcp: &Pcp, relation: Relation, times: u8) -> u8
-    requires presentation { IsTailedPresentation pcp.now }
-    requires relation { IsRelation pcp.now.presentation.rank relation }
+/// How many of these copies are passed at once: one, or all where the word of their relation has no syllables.
+fn together(times: u8, syllables: usize) -> u8
     requires some { 1 ≤ times }
     ensures some { 1 ≤ result }
     ensures within { result ≤ times }
-    ensures one_or_empty { (result ≡ 1) ⊎ (length (side_word pcp.now relation) ≡ 0) }
+    ensures one_or_empty { (result ≡ 1) ⊎ (syllables ≡ 0) }
 {
-    if pcp.word(relation).is_empty() {
-        times
-    } else {
-        1
-    }
+    if syllables == 0 { times } else { 1 }
 }

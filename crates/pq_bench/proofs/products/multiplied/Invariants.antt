@@ -3,4 +3,4 @@ use Rattle.pc_presentation.specs.Scratch.{IsScratch}
 use Rattle.pq_bench.proofs.products.multiplied.Given as goal
 
 abbrev pub invariant-loop : goal.invariant-loop
-invariant-loop l = IsScratch l.pcp l.scratch × IsElement l.pcp l.at × IsElement l.pcp l.factor × IsElement l.pcp l.out
+invariant-loop g l = IsScratch l.pcp l.scratch × IsElement l.pcp l.at × IsElement l.pcp l.factor × IsElement l.pcp l.out

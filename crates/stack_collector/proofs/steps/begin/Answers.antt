@@ -1,4 +1,4 @@
-use Rattle.std.proofs.Common.{◌-◌, sym, subst}
+use Rattle.std.proofs.Common.{◌-◌, length, sym, subst}
 use Rattle.pc_presentation.specs.Tailed.{Element, IsElement}
 use Rattle.pc_presentation.proofs.commuting.Shortcuts.{cleared_between-element}
 use Rattle.stack_collector.proofs.Begun.{begun-pushes}
@@ -12,6 +12,6 @@ raise-place-requires-clause-element c =
 
 pub returns-clause-pushed : goal.returns-clause-pushed
 returns-clause-pushed c =
-    begun-pushes c.args.pcp.now c.args.at.now c.requires.element c.args.generator (c.commuting_from-commuting.result - 1) c.raise-place.result
+    begun-pushes c.args.pcp.now c.args.at.now c.requires.element c.args.generator (c.commuting_from-commuting.result - 1) c.raise-place.result (length c.word.result.now)
     c.exponents_between-later.result c.requires.from_one c.requires.in_range c.commuting_from-commuting.ensures c.clear_between.new.self
     c.raise-place.new.at c.exponents_between-later.ensures c.clear_between.ensures c.raise-place.ensures.raised

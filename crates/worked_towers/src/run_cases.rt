@@ -6,7 +6,7 @@ use anyhow::{Result, bail};
 use case_lists::text::{Text, show, unescaped};
 use case_lists::{Cases, Devices};
 use pq_base::Status;
-use pq_io::{SureSink, SureSource};
+use pq_io::{Sink, Source, SureSink, SureSource};
 use pq_run::{Words, parse_words, run};
 use std::alloc::Global;
 
@@ -84,15 +84,25 @@ fn run_over(
 ) -> Result<()> {
     let mut source = devices.source(input)?;
     let mut sink = devices.sink()?;
-    let status = run(alloc, words, &mut source, &mut sink);
+    let status = status_of(alloc, words, &mut source, &mut sink);
     show_end(status, sink.taken(), out)
 }
 
 fn run_surely(alloc: Global, words: &Words, input: &[u8], out: &mut String) -> Result<()> {
     let mut source = SureSource::new(alloc, input)?;
     let mut sink = SureSink::new(alloc, 2000)?;
-    let status = run(alloc, words, &mut source, &mut sink);
+    let status = status_of(alloc, words, &mut source, &mut sink);
     show_end(status, sink.taken(), out)
+}
+
+/// Runs a command, and says by which status it ends.
+fn status_of<S: Source, K: Sink>(
+    alloc: Global,
+    words: &Words,
+    source: &mut S,
+    sink: &mut K,
+) -> Status {
+    run(alloc, words, source, sink)
 }
 
 fn show_end(status: Status, taken: &[u8], out: &mut String) -> Result<()> {

@@ -1,3 +1,5 @@
 pub mod RowSources
 pub mod HeldRuns
 mod CountLaws
+pub mod FirstParts
+mod CertificateVectors

@@ -2,9 +2,12 @@
 #![tactic(auto)]
 
 pub mod counts;
+pub mod laws;
 pub mod log;
+pub mod part;
 pub mod source;
 
 pub use counts::RowCounts;
 pub use log::{Log, NoLog};
+pub use part::Part;
 pub use source::{RowSource, Run};

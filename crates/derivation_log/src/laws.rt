@@ -1,0 +1,14 @@
+//! What is proved of certificates. The functions do nothing: each states a law as its clause.
+
+ghost use Rattle.derivation_log.specs.CertificateParts.{full_kind};
+ghost use Rattle.derivation_log.specs.CertificateLaws.{ValidCertificatesHaveNoFirstPart, FirstPartsAreUnique};
+
+/// No part of a valid certificate is the first that fails.
+pub fn valid_certificates_have_no_first_part()
+    ensures { ValidCertificatesHaveNoFirstPart full_kind }
+{}
+
+/// A certificate has one first part that fails at most.
+pub fn first_parts_are_unique()
+    ensures { FirstPartsAreUnique full_kind }
+{}

@@ -3,3 +3,4 @@ pub mod HeldRuns
 mod CountLaws
 pub mod FirstParts
 mod CertificateVectors
+mod ValidVectors

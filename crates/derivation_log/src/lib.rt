@@ -6,7 +6,9 @@
 pub mod certificate;
 pub mod counts;
 mod forms;
+pub mod full_log;
 pub mod laws;
+mod lines;
 pub mod log;
 pub mod part;
 pub mod source;
@@ -15,6 +17,7 @@ pub mod tail_line;
 
 pub use certificate::Cert;
 pub use counts::RowCounts;
+pub use full_log::FullLog;
 pub use log::{Log, NoLog};
 pub use part::Part;
 pub use source::{RowSource, Run};

@@ -2,6 +2,9 @@ pub mod RowSources
 pub mod HeldRuns
 mod CountLaws
 pub mod LineParts
+pub mod PairForms
+pub mod HeldForms
+pub mod HeldCertificates
 pub mod HeldLines
 pub mod FirstParts
 mod CertificateVectors

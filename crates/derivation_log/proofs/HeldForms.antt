@@ -6,7 +6,7 @@ use Rattle.std.proofs.lemmas.Bool.{cases_eq, cases_lt, cond_both, lt-ltb, false_
 use Rattle.pq_base.specs.Elementary.{zeros}
 use Rattle.pq_base.specs.Canonical.{numbers_from}
 use Rattle.fp_rows.specs.Row.{at_column, IsZeroRow}
-use Rattle.fp_rows.proofs.EntryLaws.{at_column-zeros, at_column-below, IsZeroRow-is_zeros}
+use Rattle.fp_rows.proofs.EntryLaws.{at_column-zeros, at_column-below, IsZeroRow-is_zeros, IsZeroRow-from_entries}
 use Rattle.fp_echelon.specs.Span.{combine}
 use Rattle.fp_echelon.specs.Reduced.{BasisRow, pivots_of, IsPivot, at_pivot}
 use Rattle.fp_echelon.specs.Reduction.{negative}
@@ -60,10 +60,6 @@ module _ (p t : ℕ) (row : List ℕ) (some : 0 < p) where
         cond_both (eqb c t) 0 (negative p (at_column row c)) (λ (x : ℕ). x ≡ 0) (λ e. refl)
         (λ e. ap (λ (x : ℕ). (p - x) % p) none ∙ ap (λ (x : ℕ). x % p) whole ∙ mod_self p)
 
-zero_row : (xs : List ℕ) → ((k : ℕ) → k < length xs → get_or xs k 0 ≡ 0) → IsZeroRow xs
-zero_row [] none = tt
-zero_row (x ∷ xs) none = (none 0 (omega arith), zero_row xs (λ k l. none (suc k) (omega arith)))
-
 some_pair : (pairs : List (ℕ × ℕ)) → (pairs ≡ [] → ⊥) → ltb 0 (length pairs) ≡ true
 some_pair [] none = absurd (none refl)
 some_pair (a ∷ pairs) none = lt-ltb 0 (length (a ∷ pairs)) (omega arith)
@@ -114,7 +110,7 @@ module _ (s : HeldStep) (told : IsTold s) where
         let sum = sum_found (held_basis s) told.basis t pivot in
         let cs : List ℕ = (at_pivot t s.rows).coefficients in
         let all_zero : IsZeroRow cs =
-        zero_row cs (λ k l.
+        IsZeroRow-from_entries cs (λ k l.
         let place : suc k - 1 ≡ k = omega arith in
         ap (λ (i : ℕ). get_or cs i 0) (sym place) ∙ no_pair (at_column cs) (length cs) 1 none (suc k) (omega arith) (omega arith)) in
         let row_zero : (at_pivot t s.rows).row ≡ zeros s.width =

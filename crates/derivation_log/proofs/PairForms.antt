@@ -9,7 +9,7 @@ use Rattle.derivation_log.specs.HeldLines.{pair_unless_zero, pairs_of}
 pub both_true : {a b : Bool} → a ≡ true → b ≡ true → (a && b) ≡ true
 both_true h k = ap₂ (λ (x y : Bool). x && y) h k
 
-at_least_next : (a k : ℕ) → a ≤ k → a ≢ k → suc a ≤ k
+pub at_least_next : (a k : ℕ) → a ≤ k → a ≢ k → suc a ≤ k
 at_least_next a k l ne = elim (cases_lt a k) [ inl h ↦ h | inr h ↦ absurd (ne (omega arith)) ]
 
 pub number_from : (least n : ℕ) → least ≤ n → n ≤ max_number → is_number_from least n ≡ true

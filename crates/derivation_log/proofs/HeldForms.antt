@@ -22,14 +22,14 @@ use Rattle.derivation_log.specs.HeldLines.{pairs_of, kept_coefficient, tail_line
 use Rattle.derivation_log.proofs.PairForms.{both_true, number_from, pairs-are, pairs-at_most, pairs-kept, no_pair}
 
 -- which columns have a line
-tails_of_lines : (p : ℕ) (bs : List BasisRow) (ts : List ℕ) → map (λ (l : TailLine). l.tail) (map (tail_line p bs) ts) ≡ ts
+pub tails_of_lines : (p : ℕ) (bs : List BasisRow) (ts : List ℕ) → map (λ (l : TailLine). l.tail) (map (tail_line p bs) ts) ≡ ts
 tails_of_lines p bs [] = refl
 tails_of_lines p bs (t ∷ ts) = ap (λ (us : List ℕ). t ∷ us) (tails_of_lines p bs ts)
 
 neither : (a b : Bool) → a ≡ false → b ≡ false → (a || b) ≡ false
 neither a b h k = ap₂ (λ (x y : Bool). x || y) h k
 
-not_listed : (test : ℕ → Bool) (k : ℕ) → test k ≡ false → (xs : List ℕ) → is_listed k (filter test xs) ≡ false
+pub not_listed : (test : ℕ → Bool) (k : ℕ) → test k ≡ false → (xs : List ℕ) → is_listed k (filter test xs) ≡ false
 not_listed test k fails [] = refl
 not_listed test k fails (x ∷ xs) =
     cond_both (test x) (x ∷ filter test xs) (filter test xs) (λ (l : List ℕ). is_listed k l ≡ false)
@@ -45,7 +45,7 @@ no_line p width bs k none =
 
 -- coefficients of a row
 module _ (p t : ℕ) (row : List ℕ) (some : 0 < p) where
-  kept-below : (c : ℕ) → kept_coefficient p t row c < p
+  pub kept-below : (c : ℕ) → kept_coefficient p t row c < p
   kept-below c =
       cond_both (eqb c t) 0 (negative p (at_column row c)) (λ (x : ℕ). x < p) (λ e. some) (λ e. mod-lt (p - at_column row c) some)
 

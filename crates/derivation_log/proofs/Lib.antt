@@ -6,6 +6,7 @@ pub mod PairForms
 pub mod PairRows
 pub mod HeldForms
 pub mod HeldSums
+pub mod HeldCombinations
 pub mod HeldCertificates
 pub mod HeldLines
 pub mod FirstParts

@@ -2,12 +2,17 @@
 use Rattle.std.proofs.Common.{◌≡◌, ◌≢◌, ◌+◌, ◌-◌, ◌<◌, ◌≤◌, ℕ, zero, suc, Bool, cond, eqb, List, [], ◌∷◌, ◌++◌, get_or, length, map, refl, ap, sym, ◌∙◌, subst, arith, eq-eqb, ne_eqb, inl, inr}
 use Rattle.std.proofs.lemmas.Bool.{cases_eq}
 use Rattle.std.proofs.lemmas.List.{ext_get_or, length-map}
+use Rattle.pq_base.specs.Table.{AllBelow}
 use Rattle.pq_base.specs.Canonical.{numbers_from}
 use Rattle.pq_base.proofs.NumberLists.{length-numbers_from, get_or-map_numbers}
 use Rattle.fp_rows.specs.Row.{at_column}
 use Rattle.derivation_log.specs.CertificateRuns.{coefficient_in, row_of_pairs}
 use Rattle.derivation_log.specs.HeldLines.{pair_unless_zero, pairs_of}
 use Rattle.derivation_log.proofs.PairForms.{at_least_next}
+
+pub AllBelow-from_entries : (p : ℕ) (xs : List ℕ) → ((i : ℕ) → i < length xs → get_or xs i 0 < p) → AllBelow p xs
+AllBelow-from_entries p [] below = tt
+AllBelow-from_entries p (x ∷ xs) below = (below 0 (omega arith), AllBelow-from_entries p xs (λ i l. below (suc i) (omega arith)))
 
 -- one number before others
 coefficient-here : (a e : ℕ) (rest : List (ℕ × ℕ)) → coefficient_in rest a ≡ 0 → coefficient_in (pair_unless_zero a e ++ rest) a ≡ e

@@ -53,7 +53,8 @@ kept_second = refl
 after_two : answer_after full_cover_of of_two_involutions Whole 2 ≡ answer_of_order_eight
 after_two = refl
 
-third_sources : (cover_at full_cover_of of_two_involutions Whole 3).sources ≡ commutator 3 1 ∷ commutator 3 2 ∷ power 3 ∷ power 1 ∷ power 2 ∷ []
+third_sources : (cover_at full_cover_of of_two_involutions Whole 3).sources
+    ≡ commutator 3 1 ∷ commutator 3 2 ∷ power 3 ∷ power 1 ∷ power 2 ∷ []
 third_sources = refl
 
 after_three : answer_after full_cover_of of_two_involutions Whole 3 ≡ answer_of_order_sixteen

@@ -18,7 +18,8 @@ held-steps_in L p run [] told fit = refl
 held-steps_in L p run (s ∷ steps) told fit =
     both_true fit.0.sources
     (both_true
-    (subst (λ (q : ℕ). are_tail_lines q (length s.sources) (held_lines s).tails 1 (held_lines s).tails ≡ true) fit.0.prime (lines-are s told.0))
+    (subst (λ (q : ℕ). are_tail_lines q (length s.sources) (held_lines s).tails 1 (held_lines s).tails
+    ≡ true) fit.0.prime (lines-are s told.0))
     (held-steps_in L p run steps told.1 fit.1))
 
 pub kept-certificate : (L : LPresentation) (p c : ℕ) (l : LinesOfRuns) (A : Answer) → 1 ≤ c → c ≤ max_class → A.presentation.prime ≡ p
@@ -34,6 +35,7 @@ kept-certificate L p c l A from_one limit prime names holds one_run =
       prime = prime;
       names = names;
       one_run = one_run;
-      iterated_steps = ap (are_steps_in L p Iterated) iterated.kept.are ∙ held-steps_in L p Iterated iterated.steps iterated.kept.told iterated.fit;
+      iterated_steps = ap (are_steps_in L p Iterated) iterated.kept.are
+          ∙ held-steps_in L p Iterated iterated.steps iterated.kept.told iterated.fit;
       whole_steps = ap (are_steps_in L p Whole) whole.kept.are ∙ held-steps_in L p Whole whole.steps whole.kept.told whole.fit;
     }

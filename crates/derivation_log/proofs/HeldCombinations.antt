@@ -58,13 +58,15 @@ same-listed test n a t l m true e = listed-range test n a t l m e
 same-listed test n a t l m false e = not_listed test t e (numbers_from a n)
 
 -- tests that agree on a range
-filter_agree : (f g : ℕ → Bool) (n a : ℕ) → ((t : ℕ) → a ≤ t → t < a + n → f t ≡ g t) → filter f (numbers_from a n) ≡ filter g (numbers_from a n)
+filter_agree : (f g : ℕ → Bool) (n a : ℕ) → ((t : ℕ) → a ≤ t → t < a + n → f t ≡ g t)
+    → filter f (numbers_from a n) ≡ filter g (numbers_from a n)
 filter_agree f g zero a same = refl
 filter_agree f g (suc n) a same =
     ap₂ (λ (b : Bool) (ts : List ℕ). cond b (a ∷ ts) ts) (same a (omega arith) (omega arith))
     (filter_agree f g n (suc a) (λ t l m. same t (omega arith) (omega arith)))
 
-map_agree : {X : Type 0} (f g : ℕ → X) (n a : ℕ) → ((t : ℕ) → a ≤ t → t < a + n → f t ≡ g t) → map f (numbers_from a n) ≡ map g (numbers_from a n)
+map_agree : {X : Type 0} (f g : ℕ → X) (n a : ℕ) → ((t : ℕ) → a ≤ t → t < a + n → f t ≡ g t)
+    → map f (numbers_from a n) ≡ map g (numbers_from a n)
 map_agree f g zero a same = refl
 map_agree {X} f g (suc n) a same =
     ap₂ (λ (x : X) (xs : List X). x ∷ xs) (same a (omega arith) (omega arith))
@@ -150,7 +152,8 @@ module _ (p width : ℕ) (bs : List BasisRow) (some : 1 < p) (reduced : IsReduce
         representative_is p width some bs (unit_row width t) kept_row reduced unit-is (record {
           fits = kept_row-is;
           zero = zero-at_pivots;
-          span = InSpan-turned p width some (rows_of bs) (AreRows-reduced p width bs reduced) (unit_row width t) kept_row unit-is kept_row-is
+          span = InSpan-turned p width some (rows_of bs) (AreRows-reduced p width bs reduced)
+              (unit_row width t) kept_row unit-is kept_row-is
               (subst (InSpan p width (rows_of bs)) (row-of_line p width t row some the_row.pivot_row.fits one-at first last) the_row.span);
         })
 
@@ -167,19 +170,23 @@ module _ (p width : ℕ) (bs : List BasisRow) (some : 1 < p) (reduced : IsReduce
 
     tail_row-no_pivot : tail_row width (tail_lines p width bs) t ≡ reduce_by p bs (unit_row width t)
     tail_row-no_pivot =
-        row-without_line p width bs t (pivot_columns width bs) (not_listed (λ u. is_listed u (pivots_of bs)) t not_pivot (numbers_from 1 width))
+        row-without_line p width bs t (pivot_columns width bs)
+        (not_listed (λ u. is_listed u (pivots_of bs)) t not_pivot (numbers_from 1 width))
         ∙ sym (reduce_by-fixed p width some bs (unit_row width t) reduced unit-is
         (ZeroAtPivots-from (unit_row width t) bs (λ d h.
-        at_column-unit_row_other width t d (pivot-first p width some bs reduced d h) (λ e. none (subst (λ (n : ℕ). IsPivot n bs) (sym e) h)))))
+        at_column-unit_row_other width t d (pivot-first p width some bs reduced d h)
+        (λ e. none (subst (λ (n : ℕ). IsPivot n bs) (sym e) h)))))
 
   pub tail_row-reduced : tail_row width (tail_lines p width bs) t ≡ reduce_by p bs (unit_row width t)
   tail_row-reduced = elim (pivot_or_not t bs) [ inl pivot ↦ tail_row-pivot pivot | inr none ↦ tail_row-no_pivot none ]
 
-module _ (C : CoverOf) (s : HeldStep) (told : IsTold s) (prime : s.prime ≡ C.answer.presentation.prime) (width : s.width ≡ length C.sources) where
+module _ (C : CoverOf) (s : HeldStep) (told : IsTold s) (prime : s.prime ≡ C.answer.presentation.prime) (width : s.width
+    ≡ length C.sources) where
   -- the tails without a line are those without a pivot
   kept-same : kept_in C (held_lines s) ≡ kept_columns (length C.sources) s.rows
   kept-same =
-      filter_agree (λ t. not (is_listed t (map (λ (l : TailLine). l.tail) (tail_lines s.prime s.width s.rows)))) (λ t. not (is_listed t (pivots_of s.rows)))
+      filter_agree (λ t. not (is_listed t (map (λ (l : TailLine). l.tail) (tail_lines s.prime s.width s.rows))))
+      (λ t. not (is_listed t (pivots_of s.rows)))
       (length C.sources) 1 (λ t l m.
       ap not
       (ap (is_listed t) (tails_of_lines s.prime s.rows (pivot_columns s.width s.rows))
@@ -189,13 +196,16 @@ module _ (C : CoverOf) (s : HeldStep) (told : IsTold s) (prime : s.prime ≡ C.a
   pub combinations-same : combinations_in C (held_lines s) ≡ kept_combinations C.answer.presentation.prime (length C.sources) s.rows
   combinations-same =
       let two = told.basis.prime in
-      ap₂ (λ (kept : List ℕ) (rows : List (List ℕ)). let K : TailCombinations = record { prime = C.answer.presentation.prime; kept = kept; rows = rows } in K)
+      ap₂ (λ (kept : List ℕ) (rows : List (List ℕ)). let K : TailCombinations = record
+      { prime = C.answer.presentation.prime; kept = kept; rows = rows } in K)
       kept-same
       (map_agree (λ t. entries_at (kept_in C (held_lines s)) (tail_row (length C.sources) (held_lines s).tails t))
-      (λ t. entries_at (kept_columns (length C.sources) s.rows) (reduce_by C.answer.presentation.prime s.rows (unit_row (length C.sources) t)))
+      (λ t. entries_at (kept_columns (length C.sources) s.rows)
+      (reduce_by C.answer.presentation.prime s.rows (unit_row (length C.sources) t)))
       (length C.sources) 1 (λ t l m.
       ap₂ entries_at kept-same
-      (subst (λ (q : ℕ). tail_row q (tail_lines s.prime s.width s.rows) t ≡ reduce_by C.answer.presentation.prime s.rows (unit_row q t)) width
+      (subst (λ (q : ℕ). tail_row q (tail_lines s.prime s.width s.rows) t
+      ≡ reduce_by C.answer.presentation.prime s.rows (unit_row q t)) width
       (subst (λ (q : ℕ). tail_row s.width (tail_lines s.prime s.width s.rows) t ≡ reduce_by q s.rows (unit_row s.width t)) prime
       (tail_row-reduced s.prime s.width s.rows (omega arith) told.basis.reduced t l (omega (arith, width)))))))
 

@@ -103,7 +103,8 @@ module _ (s : HeldStep) (told : IsTold s) where
           no_line s.prime s.width s.rows k (λ another. ne.1 (found.others k another ne.0)),
         )
 
-    some_coefficient : pairs_of (at_column (at_pivot t s.rows).coefficients) (numbers_from 1 (length (at_pivot t s.rows).coefficients)) ≡ [] → ⊥
+    some_coefficient : pairs_of (at_column (at_pivot t s.rows).coefficients) (numbers_from 1 (length (at_pivot t s.rows).coefficients))
+        ≡ [] → ⊥
     some_coefficient none =
         let two = told.basis.prime in
         let found = row_found (held_basis s) told.basis t pivot in
@@ -137,7 +138,8 @@ module _ (s : HeldStep) (told : IsTold s) where
         (pairs-are (kept_coefficient s.prime t row) s.prime (length row) 1 1 (omega arith) (omega arith)
         (λ k l m. kept-below s.prime t row (omega arith) k))
         (both_true
-        (pairs-kept (kept_coefficient s.prime t row) (tail_lines s.prime s.width s.rows) t (length row) 1 (λ k l m nonzero. columns-kept k nonzero))
+        (pairs-kept (kept_coefficient s.prime t row) (tail_lines s.prime s.width s.rows) t (length row) 1
+        (λ k l m nonzero. columns-kept k nonzero))
         (both_true (some_pair (pairs_of (at_column cs) (numbers_from 1 (length cs))) some_coefficient)
         (both_true
         (pairs-are (at_column cs) s.prime (length cs) 1 1 (omega arith) (omega arith)

@@ -53,7 +53,8 @@ minus_twice (suc q) (suc r) h l =
     ∙ add-mul-mod_self_left (q - (q - suc r)) (suc q) (q - suc r)
     ∙ ap (λ (n : ℕ). n % suc q) back ∙ mod-eq_of_lt l
 
-module _ (p width t : ℕ) (row : List ℕ) (some : 1 < p) (is : IsRow p width row) (one : at_column row t ≡ 1) (first : 1 ≤ t) (last : t ≤ width) where
+module _ (p width t : ℕ) (row : List ℕ) (some : 1 < p) (is : IsRow p width row) (one : at_column row t
+    ≡ 1) (first : 1 ≤ t) (last : t ≤ width) where
   abbrev kept : List ℕ
   kept = row_of_pairs width (pairs_of (kept_coefficient p t row) (numbers_from 1 width))
 
@@ -86,10 +87,12 @@ module _ (p width t : ℕ) (row : List ℕ) (some : 1 < p) (is : IsRow p width r
       ext_get_or 0 row (difference p (unit_row width t) kept)
       (wide ∙ sym (length-add_scaled p (p - 1) (unit_row width t) kept alike ∙ unit_long)) (λ i l.
       sym (get_or-add_scaled p (p - 1) (unit_row width t) kept i (omega arith) alike
-      ∙ ap (λ (k : ℕ). (get_or (unit_row width t) i 0 + (p - 1) * k) % p) (get_or-row_of_pairs (kept_coefficient p t row) width i (omega arith))
+      ∙ ap (λ (k : ℕ). (get_or (unit_row width t) i 0 + (p - 1) * k) % p)
+      (get_or-row_of_pairs (kept_coefficient p t row) width i (omega arith))
       ∙ entry i (omega arith)))
 
-module _ (C : CoverOf) (s : HeldStep) (told : IsTold s) (prime : s.prime ≡ C.answer.presentation.prime) (width : s.width ≡ length C.sources) where
+module _ (C : CoverOf) (s : HeldStep) (told : IsTold s) (prime : s.prime ≡ C.answer.presentation.prime) (width : s.width
+    ≡ length C.sources) where
   -- the line of a pivot, over the cover's prime and width
   sum-of_line : (t : ℕ) → IsPivot t s.rows → 1 ≤ t → t ≤ s.width
       → combine s.prime s.width (row_of_pairs (length s.added) (tail_line s.prime s.rows t).sums) s.added
@@ -101,9 +104,11 @@ module _ (C : CoverOf) (s : HeldStep) (told : IsTold s) (prime : s.prime ≡ C.a
       let row : List ℕ = (at_pivot t s.rows).row in
       let cs : List ℕ = (at_pivot t s.rows).coefficients in
       let coefficients : row_of_pairs (length s.added) (pairs_of (at_column cs) (numbers_from 1 (length cs))) ≡ cs =
-      subst (λ (n : ℕ). row_of_pairs n (pairs_of (at_column cs) (numbers_from 1 (length cs))) ≡ cs) sum.fits.count (row_of_pairs-entries cs) in
+      subst (λ (n : ℕ). row_of_pairs n (pairs_of (at_column cs) (numbers_from 1 (length cs)))
+      ≡ cs) sum.fits.count (row_of_pairs-entries cs) in
       ap (λ (xs : List ℕ). combine s.prime s.width xs s.added) coefficients ∙ sum.sum
-      ∙ subst (λ (n : ℕ). row ≡ difference s.prime (unit_row s.width t) (row_of_pairs s.width (pairs_of (kept_coefficient s.prime t row) (numbers_from 1 n))))
+      ∙ subst (λ (n : ℕ). row
+      ≡ difference s.prime (unit_row s.width t) (row_of_pairs s.width (pairs_of (kept_coefficient s.prime t row) (numbers_from 1 n))))
       (sym found.pivot_row.fits.count)
       (row-of_line s.prime s.width t row (omega arith) found.pivot_row.fits
       (ap (at_column row) (sym found.at) ∙ found.pivot_row.one) first last)
@@ -114,7 +119,8 @@ module _ (C : CoverOf) (s : HeldStep) (told : IsTold s) (prime : s.prime ≡ C.a
     sum = subst (λ (n : ℕ). combine C.answer.presentation.prime n (row_of_pairs (length s.added) (tail_line s.prime s.rows t).sums) s.added
         ≡ difference C.answer.presentation.prime (unit_row n t) (row_of_pairs n (tail_line s.prime s.rows t).kept)) width
         (subst (λ (p : ℕ). combine p s.width (row_of_pairs (length s.added) (tail_line s.prime s.rows t).sums) s.added
-        ≡ difference p (unit_row s.width t) (row_of_pairs s.width (tail_line s.prime s.rows t).kept)) prime (sum-of_line t pivot first last));
+        ≡ difference p (unit_row s.width t) (row_of_pairs s.width (tail_line s.prime s.rows t).kept)) prime
+        (sum-of_line t pivot first last));
   }
 
   -- of the pivots in a range

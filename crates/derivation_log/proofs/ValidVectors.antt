@@ -62,6 +62,19 @@ of_involution = record {
 abbrev with_answer : Answer → Certificate
 with_answer A = record of_involution { answer = A }
 
+-- the cover of the first step: the image of x has the one tail
+abbrev first_cover : CoverOf
+first_cover = cover_at full_cover_of of_involution Whole 1
+
+abbrev first_step : StepLines
+first_step = record { sources = []; tails = [] }
+
+abbrev the_line : TailLine
+the_line = record { tail = 1; kept = []; sums = (1, 1) ∷ [] }
+
+abbrev second_step : StepLines
+second_step = record { sources = Fixed 1 ∷ []; tails = the_line ∷ [] }
+
 -- the cover of the second step: a1^2 has the one tail
 abbrev second_cover : CoverOf
 second_cover = full_cover_of answer_of_order_two
@@ -192,9 +205,6 @@ tested_at : (k : ℕ) (d : RowSource) → k < 1 → IsTestedSource (full_kind.te
 tested_at zero d l = tt
 tested_at (suc k) d l = absurd (omega (arith, l))
 
-abbrev the_line : TailLine
-the_line = record { tail = 1; kept = []; sums = (1, 1) ∷ [] }
-
 line_at : (k : ℕ) (d : TailLine) → k < 1 → IsSumOfRows second_cover ((1 ∷ []) ∷ []) (get_or (the_line ∷ []) k d)
 line_at zero d l = record { in_range = lit≤ tt; sum = refl }
 line_at (suc k) d l = absurd (omega (arith, l))
@@ -202,34 +212,38 @@ line_at (suc k) d l = absurd (omega (arith, l))
 nothing : {X : Type 0} (P : X → Type 0) → All P []
 nothing P = All-nil P
 
-first_rank : GiveAnswer full_kind (cover_at full_cover_of of_involution Whole 1) (record { sources = []; tails = [] })
-first_rank = record { limit = lit≤ tt; may_keep = All-cons (full_kind.may_keep (cover_at full_cover_of of_involution Whole 1).answer) (image 1) [] tt (nothing (full_kind.may_keep (cover_at full_cover_of of_involution Whole 1).answer)) }
+first_rank : GiveAnswer full_kind first_cover first_step
+first_rank = record {
+  limit = lit≤ tt;
+  may_keep = All-cons (full_kind.may_keep first_cover.answer) (image 1) [] tt (nothing (full_kind.may_keep first_cover.answer));
+}
 
 -- the trial of a part of the run
 abbrev trial : ℕ → Part → Trial
 trial k p = record { run = Whole; class = k; part = p }
 
-first_rows : HavePlainRows full_kind of_involution.presentation (cover_at full_cover_of of_involution Whole 1) (record { sources = []; tails = [] })
+first_rows : HavePlainRows full_kind of_involution.presentation first_cover first_step
 first_rows = record { rows = λ k d l. absurd (omega (arith, l)); tested = λ k d l. absurd (omega (arith, l)) }
 
-first_sums : AreSumsOfRows of_involution.presentation (cover_at full_cover_of of_involution Whole 1) (record { sources = []; tails = [] })
+first_sums : AreSumsOfRows of_involution.presentation first_cover first_step
 first_sums = record { rows = []; are = tt; lines = λ k d l. absurd (omega (arith, l)) }
 
-second_rows : HavePlainRows full_kind of_involution.presentation second_cover (record { sources = Fixed 1 ∷ []; tails = the_line ∷ [] })
+second_rows : HavePlainRows full_kind of_involution.presentation second_cover second_step
 second_rows = record {
   rows = All-cons (HasPlainRow of_involution.presentation second_cover) (Fixed 1) [] (record { row = 1 ∷ []; is = fixed_row })
       (nothing (HasPlainRow of_involution.presentation second_cover));
   tested = tested_at;
 }
 
-second_sums : AreSumsOfRows of_involution.presentation second_cover (record { sources = Fixed 1 ∷ []; tails = the_line ∷ [] })
+second_sums : AreSumsOfRows of_involution.presentation second_cover second_step
 second_sums = record { rows = (1 ∷ []) ∷ []; are = (fixed_row, tt); lines = line_at }
 
-second_rank : GiveAnswer full_kind second_cover (record { sources = Fixed 1 ∷ []; tails = the_line ∷ [] })
+second_rank : GiveAnswer full_kind second_cover second_step
 second_rank = record { limit = lit≤ tt; may_keep = λ k d l. absurd (omega (arith, l)) }
 
 fixed_trivial : AreCarriedToIdentity answer_of_order_two ((pos 1 ∷ pos 1 ∷ []) ∷ [])
-fixed_trivial = All-cons (IsCarriedToIdentity answer_of_order_two) (pos 1 ∷ pos 1 ∷ []) [] square_of_image (nothing (IsCarriedToIdentity answer_of_order_two))
+fixed_trivial =
+    All-cons (IsCarriedToIdentity answer_of_order_two) (pos 1 ∷ pos 1 ∷ []) [] square_of_image (nothing (IsCarriedToIdentity answer_of_order_two))
 
 -- the parts that are judged but for the last
 abbrev twelve : List Trial

@@ -12,9 +12,11 @@ unreachable-requires c =
     let p = prime_value c.args.prime in
     let kept = kept-certificate c.args.pres.now p c.args.asked c.args.self c.args.answer.now c.requires.class_from_one c.requires.class_limit
     c.requires.prime c.requires.names c.requires.steps c.requires.one_run in
-    let inside = subst (λ (l : LinesOfRuns). IsCertificate (first_version c.args.pres.now p c.args.asked l.iterated l.whole c.args.answer.now))
+    let inside = subst (λ (l : LinesOfRuns). IsCertificate
+    (first_version c.args.pres.now p c.args.asked l.iterated l.whole c.args.answer.now))
     (sym c.self.view_is) kept in
-    let with_pres = subst (λ (L : LPresentation). IsCertificate (first_version L p c.args.asked c.self.inside.iterated.items c.self.inside.whole.items c.args.answer.now))
+    let with_pres = subst (λ (L : LPresentation). IsCertificate
+    (first_version L p c.args.asked c.self.inside.iterated.items c.self.inside.whole.items c.args.answer.now))
     (sym c.in_ok-pres.ensures) inside in
     c.in-None.ensures.none
     (subst (λ (A : Answer). IsCertificate (first_version c.in_ok-pres.pres p c.args.asked c.self.inside.iterated.items c.self.inside.whole.items A))

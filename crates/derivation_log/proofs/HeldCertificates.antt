@@ -1,12 +1,12 @@
 -- The lines of steps that are kept make a certificate, where their prime is its own and their sources may be named.
-use Rattle.std.proofs.Common.{◌≡◌, ◌≤◌, ℕ, true, false, List, [], ◌∷◌, length, map, refl, sym, ap, ◌∙◌, subst, inl}
+use Rattle.std.proofs.Common.{◌≡◌, ◌≤◌, ℕ, true, false, List, [], ◌∷◌, length, map, refl, ap, ◌∙◌, subst, inl}
 use Rattle.pq_base.specs.Limits.{max_class}
 use Rattle.pq_base.specs.LPresentation.{LPresentation}
 use Rattle.pq_base.specs.Answer.{Answer}
 use Rattle.derivation_log.specs.declared.source.Run.{Run}
 use Rattle.derivation_log.specs.declared.source.Run.TheVariants.{Iterated, Whole}
 use Rattle.derivation_log.specs.HeldSteps.{HeldStep}
-use Rattle.derivation_log.specs.Certificates.{StepLines, has_two_runs}
+use Rattle.derivation_log.specs.Certificates.{has_two_runs}
 use Rattle.derivation_log.specs.CertificateForms.{are_tail_lines, are_steps_in, first_version, IsCertificate}
 use Rattle.derivation_log.specs.HeldLines.{held_lines, AreTold, FitCertificate, LinesOfRuns, KeepsLines, HoldsFitting}
 use Rattle.derivation_log.proofs.PairForms.{both_true}

@@ -1,14 +1,12 @@
 -- The lines of a held step make of its cover what its basis makes: a tail with a line becomes the representative of the tail modulo the
 -- basis, and the tails without one are those without a pivot.
-use Rattle.std.proofs.Common.{◌≡◌, ◌≢◌, ◌+◌, ◌-◌, ◌<◌, ◌≤◌, ℕ, zero, suc, Bool, true, false, not, cond, eqb, ◌||◌, List, [], ◌∷◌, get_or, length, map, filter, refl, ap, ap₂, sym, ◌∙◌, subst, arith, eq-eqb, ne_eqb, inl, inr}
+use Rattle.std.proofs.Common.{◌≡◌, ◌+◌, ◌-◌, ◌<◌, ◌≤◌, ℕ, zero, suc, Bool, true, false, not, cond, eqb, ◌||◌, List, [], ◌∷◌, length, map, filter, refl, ap, ap₂, sym, ◌∙◌, subst, arith, eq-eqb, ne_eqb, inl, inr}
 use Rattle.std.proofs.lemmas.Bool.{cases_eq, cond_both, false_from_ne_true}
-use Rattle.pq_base.specs.Table.{AllBelow}
 use Rattle.pq_base.specs.Canonical.{numbers_from}
 use Rattle.fp_rows.specs.Row.{at_column}
 use Rattle.fp_rows.specs.Rows.{IsRow}
-use Rattle.fp_rows.specs.Differences.{difference}
 use Rattle.fp_echelon.specs.Span.{InSpan}
-use Rattle.fp_echelon.specs.Reduced.{BasisRow, rows_of, pivots_of, IsPivot, at_pivot, IsReduced, ZeroAtPivots, IsRepresentative}
+use Rattle.fp_echelon.specs.Reduced.{BasisRow, rows_of, pivots_of, IsPivot, at_pivot, IsReduced, ZeroAtPivots}
 use Rattle.fp_echelon.specs.Reduction.{negative, reduce_by}
 use Rattle.fp_echelon.proofs.ReductionLaws.{AreRows-reduced, negative-zero}
 use Rattle.fp_echelon.proofs.PivotLaws.{representative_is}
@@ -18,14 +16,14 @@ use Rattle.fp_echelon.proofs.UniqueBasis.{Found, found, pivot_or_not, ZeroAtPivo
 use Rattle.pc_presentation.specs.Pcp.{unit_row}
 use Rattle.p_cover.specs.Covers.{CoverOf}
 use Rattle.cover_quotient.specs.Combinations.{TailCombinations}
-use Rattle.cover_quotient.specs.Kept.{is_listed, kept_columns, entries_at, kept_rows, kept_combinations}
+use Rattle.cover_quotient.specs.Kept.{is_listed, kept_columns, entries_at, kept_combinations}
 use Rattle.cover_quotient.specs.NextAnswer.{combined_answer}
 use Rattle.cover_quotient.proofs.carried_rows.UnitRows.{IsRow-unit_row, at_column-unit_row_other}
 use Rattle.cover_quotient.proofs.kept_tails.KeptColumns.{listed_pivot, pivot_listed}
 use Rattle.cover_quotient.proofs.kept_tails.KeptUnits.{pivot-first}
-use Rattle.derivation_log.specs.Certificates.{TailLine, StepLines}
+use Rattle.derivation_log.specs.Certificates.{TailLine}
 use Rattle.derivation_log.specs.CertificateRuns.{row_of_pairs, tail_row, kept_in, combinations_in, next_where}
-use Rattle.derivation_log.specs.HeldSteps.{HeldStep, held_basis}
+use Rattle.derivation_log.specs.HeldSteps.{HeldStep}
 use Rattle.derivation_log.specs.HeldLines.{pairs_of, kept_coefficient, tail_line, tail_lines, pivot_columns, held_lines, IsTold}
 use Rattle.derivation_log.specs.HeldLineLaws.{HeldLinesMakeWhatTheBasisMakes}
 use Rattle.derivation_log.proofs.PairForms.{at_least_next}

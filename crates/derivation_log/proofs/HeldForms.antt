@@ -1,8 +1,8 @@
 -- The lines of held steps keep the conditions of the text of certificates: pivots rise; the other entries of a basis row that aren't 0
 -- stand before its pivot, at columns without a pivot; and a basis row isn't 0, so that some coefficient isn't.
-use Rattle.std.proofs.Common.{◌≡◌, ◌≢◌, ◌+◌, ◌-◌, ◌<◌, ◌≤◌, ◌%◌, ◌⊎◌, ℕ, zero, suc, Bool, true, false, not, eqb, ltb, cond, ◌||◌, List, [], ◌∷◌, get_or, length, map, filter, refl, ap, ap₂, sym, ◌∙◌, subst, arith, ne_eqb, eq-eqb, mod-lt, inl, inr}
+use Rattle.std.proofs.Common.{◌≡◌, ◌≢◌, ◌+◌, ◌-◌, ◌<◌, ◌≤◌, ◌%◌, ℕ, zero, suc, Bool, true, false, eqb, ltb, cond, ◌||◌, List, [], ◌∷◌, get_or, length, map, filter, refl, ap, ap₂, sym, ◌∙◌, subst, arith, ne_eqb, eq-eqb, mod-lt, inl, inr}
 use Rattle.std.proofs.Math.Nat.{mod_self}
-use Rattle.std.proofs.lemmas.Bool.{cases_eq, cases_lt, cond_both, lt-ltb, false_from_ne_true}
+use Rattle.std.proofs.lemmas.Bool.{cases_lt, cond_both, lt-ltb, false_from_ne_true}
 use Rattle.pq_base.specs.Elementary.{zeros}
 use Rattle.pq_base.specs.Canonical.{numbers_from}
 use Rattle.fp_rows.specs.Row.{at_column, IsZeroRow}
@@ -10,7 +10,6 @@ use Rattle.fp_rows.proofs.EntryLaws.{at_column-zeros, at_column-below, IsZeroRow
 use Rattle.fp_echelon.specs.Span.{combine}
 use Rattle.fp_echelon.specs.Reduced.{BasisRow, pivots_of, IsPivot, at_pivot}
 use Rattle.fp_echelon.specs.Reduction.{negative}
-use Rattle.fp_echelon.specs.Basis.{Echelon}
 use Rattle.fp_echelon.proofs.SpanLaws.{combine-zeros}
 use Rattle.fp_echelon.proofs.FoundRows.{sum_found, row_found}
 use Rattle.cover_quotient.specs.Kept.{is_listed}

@@ -1,6 +1,6 @@
 -- Each line of a held step is the sum of the rows that were added: its coefficients make the basis row, which is the tail minus what
 -- the line says it equals.
-use Rattle.std.proofs.Common.{◌≡◌, ◌≢◌, ◌+◌, ◌-◌, ◌*◌, ◌%◌, ◌<◌, ◌≤◌, ℕ, zero, suc, Bool, cond, eqb, List, [], ◌∷◌, get_or, length, map, filter, refl, ap, ap₂, sym, ◌∙◌, subst, arith, eq-eqb, ne_eqb, mod-eq_of_lt, zero-add, mul-zero, inl, inr}
+use Rattle.std.proofs.Common.{◌≡◌, ◌+◌, ◌-◌, ◌*◌, ◌%◌, ◌<◌, ◌≤◌, ℕ, zero, suc, Bool, cond, List, ◌∷◌, get_or, length, map, filter, ap, ap₂, sym, ◌∙◌, subst, arith, eq-eqb, ne_eqb, mod-eq_of_lt, zero-add, mul-zero, inl, inr}
 use Rattle.std.proofs.Math.Nat.{mul-suc, suc-mul, add-mul-mod_self_left}
 use Rattle.std.proofs.lemmas.Bool.{cases_eq, cond_both}
 use Rattle.std.specs.List.{All}
@@ -13,7 +13,7 @@ use Rattle.fp_rows.specs.Differences.{difference}
 use Rattle.fp_rows.proofs.EntryLaws.{get_or-add_scaled, at_column-below}
 use Rattle.fp_rows.proofs.RowLaws.{length-add_scaled}
 use Rattle.fp_echelon.specs.Span.{combine}
-use Rattle.fp_echelon.specs.Reduced.{BasisRow, pivots_of, IsPivot, at_pivot}
+use Rattle.fp_echelon.specs.Reduced.{pivots_of, IsPivot, at_pivot}
 use Rattle.fp_echelon.specs.Reduction.{negative}
 use Rattle.fp_echelon.proofs.FoundRows.{sum_found, row_found}
 use Rattle.fp_echelon.proofs.ReductionLaws.{negative-zero}

@@ -1,12 +1,10 @@
 -- A certificate that is valid: that the group of order two is the largest quotient of class 3 of the group of one involution. Its
 -- second step keeps no tail, so there is no third. Behind it changes after which it isn't valid.
-use Rattle.std.proofs.Common.{◌≡◌, ◌≢◌, ◌<◌, ◌≤◌, ◌-◌, ℕ, zero, suc, ℤ, pos, List, [], ◌∷◌, ◌++◌, get_or, length, refl, ap, sym, subst, map, arith, lit<, lit≤, inl, inr}
-use Rattle.std.specs.List.{All, AllZip}
+use Rattle.std.proofs.Common.{◌≡◌, ◌≢◌, ◌<◌, ◌≤◌, ◌-◌, ℕ, zero, suc, pos, List, [], ◌∷◌, ◌++◌, get_or, length, refl, ap, sym, subst, arith, lit<, lit≤, inl, inr}
+use Rattle.std.specs.List.{All}
 use Rattle.std.proofs.lemmas.List.Elements.{All-nil, All-cons, All-append}
 use Rattle.pq_base.specs.Limits.{max_rank}
 use Rattle.pq_base.specs.Prime.{IsOffered}
-use Rattle.pq_base.specs.LPresentation.{LPresentation}
-use Rattle.pq_base.specs.Presentation.{IsNormal}
 use Rattle.pq_base.specs.Answer.{Answer, Definition as Source, IsAnswer}
 use Rattle.pq_base.specs.Answer.Definition.{image, power}
 use Rattle.pq_base.proofs.vectors.Tests.{unequal}
@@ -15,14 +13,11 @@ use Rattle.pq_base.proofs.vectors.Answers.{answer_of_order_two, order_two_is_ans
 use Rattle.pc_presentation.specs.Relation.{IsTail}
 use Rattle.pc_presentation.specs.Pcp.{IsTailedPresentation}
 use Rattle.pc_presentation.specs.Rowed.{RowedPresentation, without_rows}
-use Rattle.pc_presentation.specs.Collection.{State, IsState, identity, plain_push_from, plain_push}
+use Rattle.pc_presentation.specs.Collection.{IsState, identity, plain_push_from, plain_push}
 use Rattle.pc_presentation.specs.Overlaps.{AgreesPlainly}
 use Rattle.pc_presentation.specs.Overlaps.Overlap.{own}
-use Rattle.pc_presentation.specs.declared.overlap.Overlap.{Overlap}
 use Rattle.pc_presentation.specs.declared.overlap.Overlap.TheVariants.{Triple, Left, Right, Own}
-use Rattle.pc_presentation.specs.OverlapNumbers.{AreOverlapNumbers, overlap_of}
 use Rattle.pc_presentation.specs.Arithmetic.{AreImages, product_by}
-use Rattle.pc_presentation.specs.ImageElements.{AreImageElements}
 use Rattle.pc_presentation.specs.Tailed.{Element, IsElement, rowed_presentation}
 use Rattle.pc_presentation.proofs.presentations.RelationTables.{per_relation-shape}
 use Rattle.p_cover.specs.Sources.{place_in, relation_source}

@@ -7,6 +7,8 @@ pub mod PairRows
 pub mod HeldForms
 pub mod HeldSums
 pub mod HeldCombinations
+pub mod BuiltRuns
+pub mod PassedRuns
 pub mod HeldCertificates
 pub mod HeldLines
 pub mod FirstParts

@@ -1,3 +1,17 @@
 pub mod RowSources
 pub mod HeldRuns
 mod CountLaws
+pub mod LineParts
+pub mod PairForms
+pub mod PairRows
+pub mod HeldForms
+pub mod HeldSums
+pub mod HeldCombinations
+pub mod BuiltRuns
+pub mod PassedRuns
+pub mod HeldCertificates
+pub mod HeldLines
+pub mod FirstParts
+pub mod ValidParts
+mod CertificateVectors
+mod ValidVectors

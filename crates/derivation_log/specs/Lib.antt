@@ -2,3 +2,13 @@ pub mod RowSources
 pub mod HeldSteps
 pub mod HeldRuns
 pub mod RowCounts
+pub mod Certificates
+pub mod CertificateRuns
+pub mod PlainValues
+pub mod CertificateParts
+pub mod Validity
+pub mod ValidParts
+pub mod CertificateLaws
+pub mod CertificateForms
+pub mod HeldLines
+pub mod HeldLineLaws

@@ -12,5 +12,6 @@ pub mod PassedRuns
 pub mod HeldCertificates
 pub mod HeldLines
 pub mod FirstParts
+pub mod ValidParts
 mod CertificateVectors
 mod ValidVectors

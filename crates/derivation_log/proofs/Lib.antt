@@ -13,5 +13,6 @@ pub mod HeldCertificates
 pub mod HeldLines
 pub mod FirstParts
 pub mod ValidParts
+pub mod JudgedOverlaps
 mod CertificateVectors
 mod ValidVectors

@@ -14,5 +14,6 @@ pub mod HeldLines
 pub mod FirstParts
 pub mod ValidParts
 pub mod JudgedOverlaps
+pub mod PlainValues
 mod CertificateVectors
 mod ValidVectors

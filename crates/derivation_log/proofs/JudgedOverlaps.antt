@@ -1,11 +1,11 @@
 -- The overlaps of an answer agree by the plain rule exactly where the answer is consistent.
 use Rattle.std.proofs.Common.{sym, subst}
-use Rattle.pq_base.specs.Presentation.{Presentation, IsPresentation}
+use Rattle.pq_base.specs.Presentation.{IsPresentation}
 use Rattle.pq_base.specs.Joined.{IsConsistent}
 use Rattle.pq_base.specs.Answer.{Answer}
-use Rattle.pc_presentation.specs.Rowed.{without_rows, flat}
+use Rattle.pc_presentation.specs.Rowed.{without_rows}
 use Rattle.pc_presentation.specs.Collection.{plain_push}
-use Rattle.pc_presentation.specs.Overlaps.{Overlap as OverlapOfPlaces, IsOverlap, AgreesPlainly}
+use Rattle.pc_presentation.specs.Overlaps.{Overlap as OverlapOfPlaces, AgreesPlainly}
 use Rattle.pc_presentation.specs.OverlapNumbers.{overlap_of}
 use Rattle.pc_presentation.proofs.rows.FlatLaws.{without_rows-rowed, flat-without_rows}
 use Rattle.pc_presentation.proofs.consistent.Consistency.{agreeing_overlaps_make_consistent_without_rows, plain_agreement_is_agreement}

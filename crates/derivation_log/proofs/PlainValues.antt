@@ -1,15 +1,15 @@
 -- The value of a word in an answer by the plain rule is joined to the word under the elements' words. So an answer whose images carry a
 -- word to the identity kills the word.
-use Rattle.std.proofs.Common.{◌≡◌, ◌<◌, ℕ, ℤ, List, [], ◌∷◌, ◌++◌, length, map, refl, ap, ap₂, sym, ◌∙◌, subst, append-nil, arith}
+use Rattle.std.proofs.Common.{◌≡◌, ℕ, ℤ, List, [], ◌∷◌, ◌++◌, length, map, refl, ap₂, sym, ◌∙◌, subst, append-nil, arith}
 use Rattle.std.proofs.lemmas.List.{length-map}
 use Rattle.pq_base.specs.SignedWord.{sub, HasLetters}
-use Rattle.pq_base.specs.Presentation.{Presentation, IsPresentation, normal_word, word_from}
+use Rattle.pq_base.specs.Presentation.{Presentation, IsPresentation, normal_word}
 use Rattle.pq_base.specs.Joined.{Joined}
 use Rattle.pq_base.proofs.words.JoinedLaws.{joined-sym}
-use Rattle.pq_base.specs.Answer.{Answer, IsAnswer, image_words}
+use Rattle.pq_base.specs.Answer.{Answer, image_words}
 use Rattle.pc_presentation.specs.Rowed.{without_rows, flat}
-use Rattle.pc_presentation.specs.Collection.{State, IsState, identity, plain_push, spelled, letters}
-use Rattle.pc_presentation.specs.Arithmetic.{IsMeaning, word_of, evaluate_from, AreImages, HasArithmetic}
+use Rattle.pc_presentation.specs.Collection.{State, IsState, plain_push, spelled, letters}
+use Rattle.pc_presentation.specs.Arithmetic.{word_of, evaluate_from}
 use Rattle.pc_presentation.proofs.rows.RowLaws.{identity-state}
 use Rattle.pc_presentation.proofs.rows.FlatLaws.{without_rows-rowed, flat-without_rows}
 use Rattle.pc_presentation.proofs.consistent.LetterWords.{letters-spelled}

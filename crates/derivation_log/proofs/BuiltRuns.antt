@@ -1,5 +1,5 @@
 -- The steps of a certificate build what the held steps with the same lines lead to.
-use Rattle.std.proofs.Common.{◌≡◌, ◌≢◌, ◌⊎◌, ◌+◌, ◌-◌, ◌<◌, ◌≤◌, ℕ, zero, suc, List, [], ◌∷◌, ◌++◌, get_or, length, map, refl, ap, ap₂, sym, ◌∙◌, subst, arith, inl, inr}
+use Rattle.std.proofs.Common.{◌≡◌, ◌≢◌, ◌-◌, ◌<◌, ◌≤◌, ℕ, zero, suc, List, [], ◌∷◌, ◌++◌, get_or, length, refl, ap, ap₂, sym, ◌∙◌, subst, arith}
 use Rattle.std.proofs.lemmas.List.{get_or-map, length-append, get_or_append_left}
 use Rattle.pq_base.specs.LPresentation.{LPresentation}
 use Rattle.pq_base.specs.Answer.{Answer}
@@ -11,7 +11,7 @@ use Rattle.p_cover.specs.Covers.{CoverOf}
 use Rattle.cover_quotient.specs.NextAnswer.{eliminated}
 use Rattle.derivation_log.specs.declared.source.Run.{Run}
 use Rattle.derivation_log.specs.HeldSteps.{HeldStep}
-use Rattle.derivation_log.specs.HeldRuns.{IsHeldStep, kept_by, AreHeldSteps, AreStoppedSteps, IsHeldRun}
+use Rattle.derivation_log.specs.HeldRuns.{IsHeldStep, kept_by, AreHeldSteps}
 use Rattle.derivation_log.specs.Certificates.{StepLines, Certificate, steps_of, step_of}
 use Rattle.derivation_log.specs.CertificateRuns.{kept_in, next_where, next_by, answer_after, cover_at, kept_at}
 use Rattle.derivation_log.specs.HeldLines.{held_lines, IsTold, AreTold, AreLinesOf}

@@ -2,6 +2,9 @@
 -- basis, and the tails without one are those without a pivot.
 use Rattle.std.proofs.Common.{◌≡◌, ◌+◌, ◌-◌, ◌<◌, ◌≤◌, ℕ, zero, suc, Bool, true, false, not, cond, eqb, ◌||◌, List, [], ◌∷◌, length, map, filter, refl, ap, ap₂, sym, ◌∙◌, subst, arith, eq-eqb, ne_eqb, inl, inr}
 use Rattle.std.proofs.lemmas.Bool.{cases_eq, cond_both, false_from_ne_true}
+use Rattle.std.specs.List.{All}
+use Rattle.pq_base.specs.Limits.{max_rank}
+use Rattle.pq_base.specs.Answer.{class_of}
 use Rattle.pq_base.specs.Canonical.{numbers_from}
 use Rattle.fp_rows.specs.Row.{at_column}
 use Rattle.fp_rows.specs.Rows.{IsRow}

@@ -1,6 +1,6 @@
 -- Where the lines of a step are put behind those of the steps before it, the lists of steps that have these lines have that step, or
 -- another with the same lines, at their end.
-use Rattle.std.proofs.Common.{◌≡◌, List, [], ◌∷◌, ◌++◌, get_or, drop, map, refl, ap, ap₂, sym, ◌∙◌, subst}
+use Rattle.std.proofs.Common.{◌≡◌, List, [], ◌∷◌, ◌++◌, ap, sym, ◌∙◌, subst}
 use Rattle.std.proofs.lemmas.List.{map-append}
 use Rattle.fp_echelon.specs.Basis.{Echelon, IsBasis}
 use Rattle.derivation_log.specs.declared.source.RowSource.{RowSource}

@@ -1,5 +1,5 @@
 -- Steps grow by one at the end, and values of theirs with one more have a last step.
-use Rattle.std.proofs.Common.{◌≢◌, ℕ, List, [], ◌∷◌, ◌++◌, refl, sym, subst}
+use Rattle.std.proofs.Common.{◌≡◌, ◌≢◌, ℕ, List, [], ◌∷◌, ◌++◌, get_or, drop, map, refl, ap, ap₂, sym, subst}
 use Rattle.pq_base.specs.LPresentation.{LPresentation}
 use Rattle.pq_base.specs.Answer.{Answer}
 use Rattle.pc_presentation.specs.Rowed.{RowedPresentation}

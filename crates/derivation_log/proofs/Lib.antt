@@ -13,5 +13,7 @@ pub mod HeldCertificates
 pub mod HeldLines
 pub mod FirstParts
 pub mod ValidParts
+pub mod JudgedOverlaps
+pub mod PlainValues
 mod CertificateVectors
 mod ValidVectors

@@ -1,5 +1,5 @@
 -- A certificate is valid exactly where all its parts keep what they have to.
-use Rattle.std.proofs.Common.{◌≡◌, ◌↔◌, ◌+◌, ◌<◌, ◌≤◌, ℕ, zero, suc, Bool, true, false, cond, List, [], ◌∷◌, ◌++◌, get_or, length, refl, sym, subst, arith, inl, inr}
+use Rattle.std.proofs.Common.{◌≡◌, ◌+◌, ◌<◌, ◌≤◌, ℕ, zero, suc, Bool, true, false, cond, List, [], ◌∷◌, ◌++◌, length, refl, subst, arith, inl, inr}
 use Rattle.std.specs.List.{All, flat_map}
 use Rattle.std.proofs.lemmas.Bool.{cases_eq}
 use Rattle.std.proofs.lemmas.List.{length-append, get_or_append_left, get_or-append-add}
@@ -11,7 +11,7 @@ use Rattle.derivation_log.specs.declared.part.Part.{Part}
 use Rattle.derivation_log.specs.declared.part.Part.TheVariants as part
 use Rattle.derivation_log.specs.Certificates.{Certificate, has_two_runs, steps_of}
 use Rattle.derivation_log.specs.CertificateParts.{CertificateKind, full_kind}
-use Rattle.derivation_log.specs.Validity.{Trial, Keeps, Passes, step_trials, judges_endos, last_trial, run_trials, trials, IsValid}
+use Rattle.derivation_log.specs.Validity.{Trial, Passes, step_trials, judges_endos, last_trial, run_trials, IsValid}
 use Rattle.derivation_log.specs.ValidParts.{KeepsStep, KeepsRun, KeepsAll}
 use Rattle.derivation_log.specs.CertificateLaws.{ValidCertificatesKeepAll}
 use Rattle.derivation_log.proofs.PairForms.{at_least_next}

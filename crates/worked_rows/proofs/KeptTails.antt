@@ -1,9 +1,9 @@
 -- Tails that may be kept: each column without a pivot has to be one of these, and a relation without syllables has the empty word.
 use native.Mathlib.Numerals.{unary_clauses}
-use Rattle.std.proofs.Common.{◌≡◌, ◌≤◌, ◌-◌, ◌+◌, ℕ, zero, suc, List, [], ◌∷◌, length, get_or, refl, arith}
+use Rattle.std.proofs.Common.{◌≡◌, ◌≤◌, ◌-◌, ℕ, zero, suc, List, [], ◌∷◌, length, get_or, refl, arith}
 use Rattle.std.proofs.lemmas.List.Elements.{All-map}
 use Rattle.pq_base.specs.Presentation.{word_from, power_side, commutator_side}
-use Rattle.pq_base.specs.Answer.{Answer, Definition as Source, class_of}
+use Rattle.pq_base.specs.Answer.{Answer, class_of}
 use Rattle.pq_base.specs.Answer.Definition.{image}
 use Rattle.fp_echelon.specs.Reduced.{BasisRow, IsPivot}
 use Rattle.pc_presentation.specs.declared.relation.Relation.{Relation}

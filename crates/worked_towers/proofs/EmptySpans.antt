@@ -1,5 +1,5 @@
 -- The span of no rows holds the row of zeros alone, so each matrix carries it into itself.
-use Rattle.std.proofs.Common.{◌≡◌, ℕ, zero, suc, ◌<◌, List, [], ◌∷◌, sym, ◌∙◌, subst, arith}
+use Rattle.std.proofs.Common.{◌≡◌, ℕ, zero, suc, ◌<◌, [], ◌∷◌, subst, arith}
 use Rattle.fp_echelon.specs.Span.{AreRows}
 use Rattle.fp_echelon.specs.Matrix.{PrimeMatrix, IsMatrix}
 use Rattle.fp_echelon.proofs.MatrixLaws.{matrices_carry_spans}

@@ -1,4 +1,4 @@
-use Rattle.std.proofs.Common.{◌≡◌, ◌≤◌, ℕ, sym, ◌∙◌, arith}
+use Rattle.std.proofs.Common.{arith}
 use Rattle.worked_rows.proofs.KeptTails.{all_may}
 use Rattle.worked_rows.proofs.step_cases.may_all_be_kept.Goals as goal
 

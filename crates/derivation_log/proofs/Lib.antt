@@ -15,5 +15,6 @@ pub mod FirstParts
 pub mod ValidParts
 pub mod JudgedOverlaps
 pub mod PlainValues
+pub mod PlainMaps
 mod CertificateVectors
 mod ValidVectors

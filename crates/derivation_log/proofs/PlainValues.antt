@@ -20,7 +20,7 @@ use Rattle.derivation_log.specs.PlainValues.{bare_state, identity_of, IsValue, i
 bare-word : (P : Presentation) (e : List ℕ) → word_of (without_rows P) (bare_state e) ≡ normal_word e
 bare-word P e = append-nil (letters (spelled 0 e)) ∙ letters-spelled 0 e
 
-bare-words : (P : Presentation) (es : List (List ℕ)) → map (word_of (without_rows P)) (map bare_state es) ≡ map normal_word es
+pub bare-words : (P : Presentation) (es : List (List ℕ)) → map (word_of (without_rows P)) (map bare_state es) ≡ map normal_word es
 bare-words P [] = refl
 bare-words P (e ∷ es) = ap₂ (λ (w : List ℤ) (ws : List (List ℤ)). w ∷ ws) (bare-word P e) (bare-words P es)
 

@@ -1,11 +1,11 @@
 -- An endomorphism that induces a map of an answer by the plain rule carries what dies in the answer to what dies there. So do all
 -- lists of such endomorphisms.
-use Rattle.std.proofs.Common.{◌≡◌, ◌<◌, ◌≤◌, ℕ, zero, suc, ℤ, List, [], ◌∷◌, get_or, length, map, sym, ap, ◌∙◌, subst, arith}
+use Rattle.std.proofs.Common.{◌≡◌, ◌<◌, ℕ, zero, suc, ℤ, List, [], ◌∷◌, get_or, length, map, sym, ◌∙◌, subst, arith}
 use Rattle.std.specs.List.{All}
 use Rattle.std.proofs.lemmas.List.{length-map, get_or-map}
 use Rattle.pq_base.specs.SignedWord.{sub, HasLetters}
 use Rattle.pq_base.specs.Presentation.{IsPresentation}
-use Rattle.pq_base.specs.LPresentation.{AreWords, AreEndos, AreEndoNumbers, along, endo_at}
+use Rattle.pq_base.specs.LPresentation.{AreWords, AreEndos, AreEndoNumbers, along}
 use Rattle.pq_base.specs.Joined.{Joined}
 use Rattle.pq_base.specs.Answer.{Answer, IsAnswer, image_words}
 use Rattle.pq_base.proofs.words.WordLaws.{sub-sub}
@@ -16,7 +16,7 @@ use Rattle.pq_base.proofs.words.AlongLaws.{HasLetters-along}
 use Rattle.pc_presentation.specs.Rowed.{without_rows}
 use Rattle.pc_presentation.specs.Collection.{State}
 use Rattle.pc_presentation.specs.Arithmetic.{word_of}
-use Rattle.derivation_log.specs.PlainValues.{bare_state, identity_of, images_of, IsValue, InducesPlainly}
+use Rattle.derivation_log.specs.PlainValues.{bare_state, identity_of, images_of, InducesPlainly}
 use Rattle.derivation_log.proofs.PlainValues.{bare-words, value-joined}
 use Rattle.derivation_log.proofs.PlainMaps.{maps-carry}
 
@@ -24,7 +24,8 @@ module _ (A : Answer) (answer : IsAnswer A) where
   abbrev P_is : IsPresentation A.presentation
   P_is = answer.presentation
 
-  module _ (endo : List (List ℤ)) (count : length endo ≡ length A.names) (over : AreWords (length A.names) endo) (made : InducesPlainly A endo) where
+  module _ (endo : List (List ℤ)) (count : length endo
+      ≡ length A.names) (over : AreWords (length A.names) endo) (made : InducesPlainly A endo) where
     abbrev values : List (List ℤ)
     values = map (word_of (without_rows A.presentation)) made.values
 

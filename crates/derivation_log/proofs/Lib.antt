@@ -15,5 +15,7 @@ pub mod FirstParts
 pub mod ValidParts
 pub mod JudgedOverlaps
 pub mod PlainValues
+pub mod PlainMaps
+pub mod PlainEndomorphisms
 mod CertificateVectors
 mod ValidVectors

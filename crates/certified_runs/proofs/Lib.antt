@@ -1,0 +1,3 @@
+pub mod LinePairs
+pub mod LineRows
+pub mod LineSteps

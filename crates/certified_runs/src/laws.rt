@@ -1,0 +1,1 @@
+//! What is proved of the certificates that runs give. The functions do nothing: each states a law as its clause.

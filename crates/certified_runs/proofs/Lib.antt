@@ -3,3 +3,6 @@ pub mod LineRows
 pub mod LineSteps
 pub mod StepParts
 pub mod HeldAnswers
+pub mod RunParts
+pub mod PlainGroups
+pub mod AnswerParts

@@ -6,3 +6,4 @@ pub mod HeldAnswers
 pub mod RunParts
 pub mod PlainGroups
 pub mod AnswerParts
+pub mod Extensions

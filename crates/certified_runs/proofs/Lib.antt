@@ -7,3 +7,4 @@ pub mod RunParts
 pub mod PlainGroups
 pub mod AnswerParts
 pub mod Extensions
+pub mod KeptSources

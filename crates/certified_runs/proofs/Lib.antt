@@ -8,3 +8,4 @@ pub mod PlainGroups
 pub mod AnswerParts
 pub mod Extensions
 pub mod KeptSources
+pub mod RunAnswers

@@ -9,3 +9,5 @@ pub mod AnswerParts
 pub mod Extensions
 pub mod KeptSources
 pub mod RunAnswers
+pub mod LargestMaps
+pub mod PlainMaps

@@ -11,3 +11,4 @@ pub mod KeptSources
 pub mod RunAnswers
 pub mod LargestMaps
 pub mod PlainMaps
+pub mod MapParts

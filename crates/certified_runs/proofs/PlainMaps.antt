@@ -48,7 +48,7 @@ module _ (A : Answer) (is : IsAnswer A) (consistent : IsConsistent A.presentatio
       let rest = elements-of ws are.1 in
       (one.0 ∷ rest.0, record { count = ap suc rest.1.count; each = more-each w ws one.0 rest.0 one.1 rest.1 })
 
-  elements-are : (ws : List (List ℤ)) (g : List State) → HaveElements ws g → AreElements A.presentation g
+  pub elements-are : (ws : List (List ℤ)) (g : List State) → HaveElements ws g → AreElements A.presentation g
   elements-are [] [] h = tt
   elements-are [] (s ∷ g) h = let c = h.count in absurd (omega arith)
   elements-are (w ∷ ws) [] h = let c = h.count in absurd (omega arith)

@@ -1,6 +1,6 @@
 -- Where the number of rows of a step is put behind the numbers of the steps before it, the lists with these numbers have that
 -- step, or another with as many rows, at their end.
-use Rattle.std.proofs.Common.{◌≡◌, ℕ, List, [], ◌∷◌, ◌++◌, get_or, drop, length, map, refl, ap, ap₂, sym, ◌∙◌, arith}
+use Rattle.std.proofs.Common.{◌≡◌, ℕ, List, [], ◌∷◌, ◌++◌, get_or, drop, map, refl, ap, ap₂, sym, ◌∙◌}
 use Rattle.std.proofs.lemmas.List.{map-append}
 use Rattle.derivation_log.specs.HeldSteps.{HeldStep, KeepsOneMore}
 use Rattle.derivation_log.specs.RowCounts.{rows_added}

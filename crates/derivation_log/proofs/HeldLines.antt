@@ -1,12 +1,12 @@
 -- Where the lines of a step are put behind those of the steps before it, the lists of steps that have these lines have that step, or
 -- another with the same lines, at their end.
-use Rattle.std.proofs.Common.{◌≡◌, ℕ, List, [], ◌∷◌, ◌++◌, get_or, drop, map, refl, ap, ap₂, sym, ◌∙◌, subst}
+use Rattle.std.proofs.Common.{◌≡◌, List, [], ◌∷◌, ◌++◌, get_or, drop, map, refl, ap, ap₂, sym, ◌∙◌, subst}
 use Rattle.std.proofs.lemmas.List.{map-append}
 use Rattle.fp_echelon.specs.Basis.{Echelon, IsBasis}
 use Rattle.derivation_log.specs.declared.source.RowSource.{RowSource}
 use Rattle.derivation_log.specs.HeldSteps.{HeldStep, told_step, held_basis, KeepsOneMore}
 use Rattle.derivation_log.specs.Certificates.{StepLines}
-use Rattle.derivation_log.specs.HeldLines.{held_lines, IsTold, AreTold, LinesOfRuns, AreLinesOf, HoldsLines}
+use Rattle.derivation_log.specs.HeldLines.{held_lines, IsTold, AreTold, AreLinesOf}
 
 -- the basis, whatever room it has
 pub held-basis : (B : Echelon) (sources : List RowSource) → IsBasis B → IsBasis (held_basis (told_step sources B))
@@ -61,23 +61,4 @@ lines-one_more before after s told e = record {
         record { are = rest.2; told = AreTold-front rest.0 rest.1 (subst AreTold rest.3 h.told) },
         rest.3,
       );
-}
-
--- a log with the lines of one step more
-pub holds-iterated : (l : LinesOfRuns) (after : List StepLines) (s : HeldStep) → HoldsLines l → IsTold s
-    → after ≡ l.iterated ++ held_lines s ∷ [] → HoldsLines (record { iterated = after; whole = l.whole })
-holds-iterated l after s holds told e = record {
-  iterated = holds.iterated ++ s ∷ [];
-  whole = holds.whole;
-  iterated_lines = (lines-one_more l.iterated after s told e).appended holds.iterated holds.iterated_lines;
-  whole_lines = holds.whole_lines;
-}
-
-pub holds-whole : (l : LinesOfRuns) (after : List StepLines) (s : HeldStep) → HoldsLines l → IsTold s
-    → after ≡ l.whole ++ held_lines s ∷ [] → HoldsLines (record { iterated = l.iterated; whole = after })
-holds-whole l after s holds told e = record {
-  iterated = holds.iterated;
-  whole = holds.whole ++ s ∷ [];
-  iterated_lines = holds.iterated_lines;
-  whole_lines = (lines-one_more l.whole after s told e).appended holds.whole holds.whole_lines;
 }

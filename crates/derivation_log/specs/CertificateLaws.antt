@@ -13,4 +13,5 @@ ValidCertificatesHaveNoFirstPart kind = (c : Certificate) (run : Run) (k : ℕ) 
 
 -- a certificate has one first part that fails at most
 abbrev pub FirstPartsAreUnique : CertificateKind → Type 0
-FirstPartsAreUnique kind = (c : Certificate) (s t : Trial) → FirstPart kind c s.run s.class s.part → FirstPart kind c t.run t.class t.part → s ≡ t
+FirstPartsAreUnique kind = (c : Certificate) (s t : Trial) → FirstPart kind c s.run s.class s.part
+    → FirstPart kind c t.run t.class t.part → s ≡ t

@@ -10,3 +10,4 @@ pub mod Validity
 pub mod CertificateLaws
 pub mod CertificateForms
 pub mod HeldLines
+pub mod HeldLineLaws

@@ -13,10 +13,10 @@ use Rattle.cover_quotient.specs.NextAnswer.{combined_answer, eliminated}
 use Rattle.derivation_log.specs.declared.source.Run.{Run}
 use Rattle.derivation_log.specs.HeldSteps.{HeldStep}
 use Rattle.derivation_log.specs.HeldRuns.{IsHeldStep, kept_by, AreHeldSteps, AreStoppedSteps, IsHeldRun}
-use Rattle.derivation_log.specs.HeldLines.{held_lines}
+use Rattle.derivation_log.specs.HeldLines.{held_lines, IsTold}
 use Rattle.derivation_log.specs.Certificates.{StepLines, Certificate, steps_of, step_of}
 use Rattle.derivation_log.specs.CertificateRuns.{kept_in, combinations_in, next_where, next_by, answer_after, cover_at, kept_at}
-use Rattle.certified_runs.proofs.LineSteps.{kept_in-held, combined-held}
+use Rattle.derivation_log.proofs.HeldCombinations.{held_lines_make_what_the_basis_makes}
 
 -- a step that stands for none
 abbrev pub no_step : HeldStep
@@ -34,22 +34,22 @@ next-none (k ∷ ks) A N none = cc
 module _ (L : LPresentation) (meaning : RowedPresentation → State → ℕ → State) (cover : Answer → CoverOf)
     (tested : Answer → Overlap → Type 0) where
   -- the step of a held step
-  pub next-held : (C : CoverOf) (test : Overlap → Type 0) (s : HeldStep) → IsHeldStep L meaning C test s → kept_by C s ≢ []
+  pub next-held : (C : CoverOf) (test : Overlap → Type 0) (s : HeldStep) → IsTold s → IsHeldStep L meaning C test s → kept_by C s ≢ []
       → next_by C (held_lines s) ≡ eliminated C s.rows
-  next-held C test s held some =
-      next-some (kept_in C (held_lines s)) C.answer (combined_answer C (combinations_in C (held_lines s)))
-      (λ e. some (sym (kept_in-held C s held.basis held.prime held.width) ∙ e))
-      ∙ combined-held C s held.basis held.prime held.width
+  next-held C test s told held some =
+      (held_lines_make_what_the_basis_makes C s told held.prime held.width).next
+      ∙ next-some (kept_by C s) C.answer (eliminated C s.rows) some
 
-  pub next-stopped : (C : CoverOf) (test : Overlap → Type 0) (s : HeldStep) → IsHeldStep L meaning C test s → kept_by C s ≡ []
+  pub next-stopped : (C : CoverOf) (test : Overlap → Type 0) (s : HeldStep) → IsTold s → IsHeldStep L meaning C test s → kept_by C s ≡ []
       → next_by C (held_lines s) ≡ C.answer
-  next-stopped C test s held none =
-      next-none (kept_in C (held_lines s)) C.answer (combined_answer C (combinations_in C (held_lines s)))
-      (kept_in-held C s held.basis held.prime held.width ∙ none)
+  next-stopped C test s told held none =
+      (held_lines_make_what_the_basis_makes C s told held.prime held.width).next
+      ∙ next-none (kept_by C s) C.answer (eliminated C s.rows) none
 
   -- the steps from an answer on stand in a run of a certificate from place n on
   record AreAt (c : Certificate) (run : Run) (n : ℕ) (ss : List HeldStep) : Type 0 where
     pub lines : (k : ℕ) → k < length ss → step_of c run (suc (n + k)) ≡ held_lines (get_or ss k no_step)
+    pub told : (k : ℕ) → k < length ss → IsTold (get_or ss k no_step)
 
   -- the step at a place, by the answer that was built before it
   pub record IsStepAt (c : Certificate) (run : Run) (n : ℕ) (s : HeldStep) : Type 0 where
@@ -80,13 +80,14 @@ module _ (L : LPresentation) (meaning : RowedPresentation → State → ℕ → 
       let line : step_of c run (suc n) ≡ held_lines s =
       ap (λ (k : ℕ). step_of c run (suc k)) (sym e0) ∙ at.lines 0 (omega arith) in
       let next : answer_after cover c run (suc n) ≡ eliminated (cover A) s.rows =
-      ap₂ (λ (D : Answer) (l : StepLines). next_by (cover D) l) here line ∙ next-held (cover A) (tested A) s all.0 all.1 in
+      ap₂ (λ (D : Answer) (l : StepLines). next_by (cover D) l) here line ∙ next-held (cover A) (tested A) s (at.told 0 (omega arith)) all.0 all.1 in
       let rest : AreBuilt c run (suc n) ss B =
       steps-built c run (suc n) (eliminated (cover A) s.rows) ss B all.2 next
       (record {
         lines = λ k l.
             let e : suc (suc n + k) ≡ suc (n + suc k) = omega arith in
             ap (step_of c run) e ∙ at.lines (suc k) (omega arith);
+        told = λ k l. at.told (suc k) (omega arith);
       }) in
       let first : IsStepAt c run n s = record {
         held = subst (λ (D : Answer). IsHeldStep L meaning (cover D) (tested D) s) (sym here) all.0;
@@ -103,6 +104,7 @@ module _ (L : LPresentation) (meaning : RowedPresentation → State → ℕ → 
     pub some : 1 ≤ length ss
     pub within : length ss ≤ c.class
     pub lines : steps_of c run ≡ map held_lines ss
+    pub told : (k : ℕ) → k < length ss → IsTold (get_or ss k no_step)
     pub held : (k : ℕ) → k < length ss
         → IsHeldStep L meaning (cover (answer_after cover c run k)) (tested (answer_after cover c run k)) (get_or ss k no_step)
     pub kept : (k : ℕ) → suc k < length ss → kept_by (cover (answer_after cover c run k)) (get_or ss k no_step) ≢ []
@@ -121,7 +123,7 @@ module _ (L : LPresentation) (meaning : RowedPresentation → State → ℕ → 
   get_or-end (s ∷ es) t = get_or-end es t
 
   module _ (own : (A : Answer) → (cover A).answer ≡ A) (c : Certificate) (run : Run) (ss : List HeldStep) (B : Answer)
-      (lines : steps_of c run ≡ map held_lines ss) where
+      (lines : steps_of c run ≡ map held_lines ss) (told : (k : ℕ) → k < length ss → IsTold (get_or ss k no_step)) where
     step-is : (k : ℕ) → k < length ss → step_of c run (suc k) ≡ held_lines (get_or ss k no_step)
     step-is k l =
         let e : suc k - 1 ≡ k = omega arith in
@@ -130,10 +132,11 @@ module _ (L : LPresentation) (meaning : RowedPresentation → State → ℕ → 
         ∙ get_or-map held_lines ss k no_step (record { sources = []; tails = [] }) l
 
     built : (es : List HeldStep) (D : Answer) → AreHeldSteps L meaning cover tested (trivial_answer c.prime c.presentation.names) es D
-        → ((k : ℕ) → k < length es → step_of c run (suc k) ≡ held_lines (get_or es k no_step)) → AreBuilt c run 0 es D
-    built es D all at =
+        → ((k : ℕ) → k < length es → step_of c run (suc k) ≡ held_lines (get_or es k no_step))
+        → ((k : ℕ) → k < length es → IsTold (get_or es k no_step)) → AreBuilt c run 0 es D
+    built es D all at known =
         steps-built c run 0 (trivial_answer c.prime c.presentation.names) es D all refl
-        (record { lines = λ k l. let e : suc (0 + k) ≡ suc k = omega arith in ap (step_of c run) e ∙ at k l })
+        (record { lines = λ k l. let e : suc (0 + k) ≡ suc k = omega arith in ap (step_of c run) e ∙ at k l; told = known })
 
     built-at : (es : List HeldStep) (D : Answer) → AreBuilt c run 0 es D → (k : ℕ) → k < length es → IsStepAt c run k (get_or es k no_step)
     built-at es D b k l = let e : 0 + k ≡ k = omega arith in subst (λ (m : ℕ). IsStepAt c run m (get_or es k no_step)) e (b.steps k l)
@@ -144,11 +147,12 @@ module _ (L : LPresentation) (meaning : RowedPresentation → State → ℕ → 
     pub run-of_all : AreHeldSteps L meaning cover tested (trivial_answer c.prime c.presentation.names) ss B → length ss ≡ c.class
         → 1 ≤ c.class → IsRunOf c run ss B
     run-of_all all count some =
-        let b : AreBuilt c run 0 ss B = built ss B all step-is in
+        let b : AreBuilt c run 0 ss B = built ss B all step-is told in
         record {
           some = omega arith;
           within = omega arith;
           lines = lines;
+          told = told;
           held = λ k l. (built-at ss B b k l).held;
           kept = λ k l. (built-at ss B b k (omega arith)).kept;
           last = inl count;
@@ -167,17 +171,19 @@ module _ (L : LPresentation) (meaning : RowedPresentation → State → ℕ → 
         let end : get_or ss (length es) no_step ≡ t =
         ap (λ (xs : List HeldStep). get_or xs (length es) no_step) e ∙ get_or-end es t in
         let b : AreBuilt c run 0 es B =
-        built es B all (λ k l. step-is k (omega arith) ∙ ap held_lines (front k l)) in
+        built es B all (λ k l. step-is k (omega arith) ∙ ap held_lines (front k l))
+        (λ k l. subst IsTold (front k l) (told k (omega arith))) in
         let here : answer_after cover c run (length es) ≡ B = built-last es B b in
         let at : IsHeldStep L meaning (cover (answer_after cover c run (length es))) (tested (answer_after cover c run (length es))) t =
         subst (λ (D : Answer). IsHeldStep L meaning (cover D) (tested D) t) (sym here) is in
         let next : answer_after cover c run (suc (length es)) ≡ B =
         ap₂ (λ (D : Answer) (l : StepLines). next_by (cover D) l) here (step-is (length es) (omega arith) ∙ ap held_lines end)
-        ∙ next-stopped (cover B) (tested B) t is none ∙ own B in
+        ∙ next-stopped (cover B) (tested B) t (subst IsTold end (told (length es) (omega arith))) is none ∙ own B in
         record {
           some = omega arith;
           within = omega arith;
           lines = lines;
+          told = told;
           held = λ k l.
               ⊎_elim
               (λ before.

@@ -1,6 +1,3 @@
-pub mod LinePairs
-pub mod LineRows
-pub mod LineSteps
 pub mod StepParts
 pub mod HeldAnswers
 pub mod RunParts
@@ -12,3 +9,4 @@ pub mod RunAnswers
 pub mod LargestMaps
 pub mod PlainMaps
 pub mod MapParts
+pub mod CertifiedRuns

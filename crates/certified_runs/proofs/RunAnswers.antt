@@ -28,7 +28,7 @@ use Rattle.derivation_log.specs.HeldLines.{held_lines}
 use Rattle.derivation_log.specs.Certificates.{StepLines, Certificate, step_of}
 use Rattle.derivation_log.specs.CertificateRuns.{kept_in, kept_sources_in, next_by, answer_after, cover_at, kept_at}
 use Rattle.derivation_log.specs.CertificateParts.{full_kind, GiveAnswer}
-use Rattle.certified_runs.proofs.LineSteps.{kept_in-held}
+use Rattle.derivation_log.proofs.HeldCombinations.{held_lines_make_what_the_basis_makes}
 use Rattle.certified_runs.proofs.HeldAnswers.{no_step, IsRunOf, next-held, next-stopped}
 use Rattle.certified_runs.proofs.RunParts.{step-is, kept-is, held-is}
 use Rattle.certified_runs.proofs.Extensions.{IsShaped, Extends, answer-shaped, extends-self, extends-trans, shaped-next, extends-next}
@@ -66,13 +66,13 @@ module _ (tested : Answer → Overlap → Type 0) (c : Certificate) (run : Run) 
   next-is : (k : ℕ) → k < length ss → kept_by (C k) (s k) ≢ [] → a (suc k) ≡ eliminated (C k) (s k).rows
   next-is k l some =
       ap (next_by (C k)) (line-at k l)
-      ∙ next-held L plain_push full_cover_of tested (C k) (tested (a k)) (s k) (is.held k l) some
+      ∙ next-held L plain_push full_cover_of tested (C k) (tested (a k)) (s k) (is.told k l) (is.held k l) some
 
   -- and one that keeps none
   stays : (k : ℕ) → k < length ss → kept_by (C k) (s k) ≡ [] → a (suc k) ≡ a k
   stays k l none =
       ap (next_by (C k)) (line-at k l)
-      ∙ next-stopped L plain_push full_cover_of tested (C k) (tested (a k)) (s k) (is.held k l) none
+      ∙ next-stopped L plain_push full_cover_of tested (C k) (tested (a k)) (s k) (is.told k l) (is.held k l) none
 
   first-answer : IsAnswer (trivial_answer c.prime c.presentation.names)
   first-answer =
@@ -173,7 +173,7 @@ module _ (tested : Answer → Overlap → Type 0) (c : Certificate) (run : Run) 
   give-at : (k : ℕ) → k < length ss → B.presentation.rank ≤ max_rank → GiveAnswer full_kind (C k) (held_lines (s k))
   give-at k l small =
       let held = is.held k l in
-      let same : kept_in (C k) (held_lines (s k)) ≡ kept_by (C k) (s k) = kept_in-held (C k) (s k) held.basis held.prime held.width in
+      let same : kept_in (C k) (held_lines (s k)) ≡ kept_by (C k) (s k) = (held_lines_make_what_the_basis_makes (C k) (s k) (is.told k l) held.prime held.width).kept in
       let here : IsGood k = good k (omega arith) in
       ⊎_elim
       (λ none.

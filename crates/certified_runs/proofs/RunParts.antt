@@ -14,7 +14,7 @@ use Rattle.derivation_log.specs.HeldLines.{held_lines}
 use Rattle.derivation_log.specs.Certificates.{StepLines, Certificate, steps_of, step_of, presentation_of}
 use Rattle.derivation_log.specs.CertificateRuns.{kept_in, answer_after, cover_at, kept_at}
 use Rattle.derivation_log.specs.CertificateParts.{full_kind, IsNotExtra, HavePlainRows, AreSumsOfRows, IsNotShort, built_by}
-use Rattle.certified_runs.proofs.LineSteps.{kept_in-held}
+use Rattle.derivation_log.proofs.HeldCombinations.{held_lines_make_what_the_basis_makes}
 use Rattle.certified_runs.proofs.StepParts.{plain-rows, sums-of_rows}
 use Rattle.certified_runs.proofs.HeldAnswers.{no_step, IsRunOf}
 
@@ -40,7 +40,7 @@ module _ (tested : Answer → Overlap → Type 0) (c : Certificate) (run : Run) 
   kept-is k first last =
       let held = held-is k first last in
       ap (kept_in (cover_at full_cover_of c run k)) (step-is k first last)
-      ∙ kept_in-held (cover_at full_cover_of c run k) (held_at k) held.basis held.prime held.width
+      ∙ (held_lines_make_what_the_basis_makes (cover_at full_cover_of c run k) (held_at k) (is.told (k - 1) (omega arith)) held.prime held.width).kept
 
   -- Extra
   pub not-extra : (k : ℕ) → 1 ≤ k → k ≤ length ss → IsNotExtra full_cover_of c run k
@@ -56,13 +56,15 @@ module _ (tested : Answer → Overlap → Type 0) (c : Certificate) (run : Run) 
   pub have-rows : (k : ℕ) → 1 ≤ k → k ≤ length ss → HavePlainRows full_kind L (cover_at full_cover_of c run k) (step_of c run k)
   have-rows k first last =
       subst (HavePlainRows full_kind L (cover_at full_cover_of c run k)) (sym (step-is k first last))
-      (plain-rows L (cover_at full_cover_of c run k) (tested (answer_after full_cover_of c run (k - 1))) (held_at k) (held-is k first last))
+      (plain-rows L (cover_at full_cover_of c run k) (tested (answer_after full_cover_of c run (k - 1))) (held_at k)
+      (is.told (k - 1) (omega arith)) (held-is k first last))
 
   -- Sum
   pub are-sums : (k : ℕ) → 1 ≤ k → k ≤ length ss → AreSumsOfRows L (cover_at full_cover_of c run k) (step_of c run k)
   are-sums k first last =
       subst (AreSumsOfRows L (cover_at full_cover_of c run k)) (sym (step-is k first last))
-      (sums-of_rows L (cover_at full_cover_of c run k) (tested (answer_after full_cover_of c run (k - 1))) (held_at k) (held-is k first last))
+      (sums-of_rows L (cover_at full_cover_of c run k) (tested (answer_after full_cover_of c run (k - 1))) (held_at k)
+      (is.told (k - 1) (omega arith)) (held-is k first last))
 
   -- Short
   pub not-short : IsNotShort full_cover_of c run

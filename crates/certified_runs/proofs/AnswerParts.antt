@@ -1,13 +1,11 @@
 -- Parts that hold of a consistent answer: all overlaps agree by the plain rule, and its images carry the words that it kills to the
 -- identity.
-use Rattle.std.proofs.Common.{◌≡◌, ℕ, ◌<◌, ℤ, List, [], length, get_or, map, ap, sym, ◌∙◌, subst, arith}
-use Rattle.std.specs.List.{All}
+use Rattle.std.proofs.Common.{◌≡◌, ℕ, ℤ, List, [], length, get_or, ap, sym, ◌∙◌, subst}
 use Rattle.std.proofs.lemmas.List.{length-map}
 use Rattle.std.proofs.lemmas.List.Elements.{All-from_get_or}
 use Rattle.pq_base.specs.SignedWord.{sub, HasLetters}
 use Rattle.pq_base.specs.LPresentation.{LPresentation, IsLPresentation}
 use Rattle.pq_base.specs.LPresentation.IsRelator.{fixed_relator, iterated_relator}
-use Rattle.pq_base.specs.Presentation.{Presentation}
 use Rattle.pq_base.specs.Joined.{Joined, IsConsistent}
 use Rattle.pq_base.specs.Answer.{Answer, IsAnswer, image_words}
 use Rattle.pq_base.specs.Largest.{Kills}
@@ -15,7 +13,6 @@ use Rattle.pq_base.proofs.words.JoinedLaws.{joined-sym, joined-trans, joined-fro
 use Rattle.pq_base.proofs.words.LetterLaws.{HasLetters-get_or}
 use Rattle.pc_presentation.specs.Rowed.{without_rows}
 use Rattle.pc_presentation.specs.Collection.{plain_push}
-use Rattle.pc_presentation.specs.Arithmetic.{word_of}
 use Rattle.pc_presentation.specs.OverlapNumbers.{overlap_of}
 use Rattle.pc_presentation.proofs.rows.FlatLaws.{flat-without_rows}
 use Rattle.pc_presentation.proofs.consistent.ConsistentOverlaps.{consistent_overlaps_agree}

@@ -1,7 +1,7 @@
 -- A certificate that is made of runs to largest quotients is valid, part by part.
-use Rattle.std.proofs.Common.{◌≡◌, ◌⊎◌, ℕ, zero, suc, ◌+◌, ◌-◌, ◌<◌, ◌≤◌, Bool, true, false, not, ltb, ◌&&◌, cond, ℤ, List, [], ◌∷◌, ◌++◌, length, get_or, map, refl, ap, ap₂, sym, ◌∙◌, subst, arith, inl, inr, ⊎_elim}
+use Rattle.std.proofs.Common.{◌≡◌, ◌⊎◌, ℕ, zero, suc, ◌+◌, ◌<◌, ◌≤◌, Bool, true, false, not, ltb, ◌&&◌, cond, ℤ, List, [], ◌∷◌, ◌++◌, length, get_or, refl, ap, sym, ◌∙◌, subst, arith}
 use Rattle.std.specs.List.{All, flat_map}
-use Rattle.std.proofs.lemmas.Bool.{cases_Bool, ltb-false}
+use Rattle.std.proofs.lemmas.Bool.{ltb-false}
 use Rattle.std.proofs.lemmas.List.Elements.{All-nil, All-append, All-from_recursion}
 use Rattle.pq_base.specs.LPresentation.{LPresentation, IsLPresentation, part}
 use Rattle.pq_base.specs.LPresentation.Part.{iterated_part}
@@ -14,16 +14,15 @@ use Rattle.pc_presentation.specs.declared.overlap.Overlap.{Overlap}
 use Rattle.cover_quotient.specs.Stages.{full_cover_of}
 use Rattle.derivation_log.specs.declared.source.Run.{Run}
 use Rattle.derivation_log.specs.declared.source.Run.TheVariants.{Iterated, Whole}
-use Rattle.derivation_log.specs.declared.part.Part.{Part}
 use Rattle.derivation_log.specs.declared.part.Part.TheVariants as part_of_run
 use Rattle.derivation_log.specs.HeldSteps.{HeldStep}
-use Rattle.derivation_log.specs.HeldRuns.{AreHeldSteps, AreStoppedSteps, IsHeldRun}
+use Rattle.derivation_log.specs.HeldRuns.{AreHeldSteps, AreStoppedSteps}
 use Rattle.derivation_log.specs.HeldLines.{IsTold, AreTold}
 use Rattle.derivation_log.specs.Certificates.{Certificate, has_two_runs, steps_of, presentation_of}
 use Rattle.derivation_log.specs.PlainValues.{MakeMap, InducesPlainly, images_of}
 use Rattle.derivation_log.specs.CertificateParts.{full_kind, OverlapsAgree, AreCarriedToIdentity, built_by}
-use Rattle.derivation_log.specs.Validity.{Trial, Keeps, step_trials, judges_endos, last_trial, run_trials, trials, Passes, IsValid}
-use Rattle.certified_runs.specs.RunLaws.{IsRunTo, StepsPass, IsWithinLimits, StepsGiveAnswers, RunsAreNotShort, RunsBuildTheirAnswers, OverlapsOfConsistentAnswersAgree, KilledWordsAreCarried, EndomorphismsInducePlainly, ImagesMakeMaps, IsRunToLargest, HasFirstRun, IsMadeOfRuns, CertificatesOfRunsAreValid}
+use Rattle.derivation_log.specs.Validity.{Trial, Keeps, step_trials, judges_endos, last_trial, run_trials, trials, Passes}
+use Rattle.certified_runs.specs.RunLaws.{IsRunTo, StepsPass, IsWithinLimits, StepsGiveAnswers, RunsAreNotShort, RunsBuildTheirAnswers, OverlapsOfConsistentAnswersAgree, KilledWordsAreCarried, EndomorphismsInducePlainly, ImagesMakeMaps, IsRunToLargest, HasFirstRun, CertificatesOfRunsAreValid}
 use Rattle.certified_runs.proofs.HeldAnswers.{no_step, IsRunOf, run-held}
 use Rattle.certified_runs.proofs.RunParts.{length-steps, not-extra, have-rows, are-sums, not-short, built-is}
 use Rattle.certified_runs.proofs.RunAnswers.{give-answer}

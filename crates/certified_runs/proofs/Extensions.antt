@@ -1,6 +1,6 @@
 -- Each answer that a run builds extends those before it: right sides and lists of the earlier answer stand in front of those of the
 -- later one. This is so whether or not what is built is an answer.
-use Rattle.std.proofs.Common.{◌≡◌, ℕ, zero, suc, ◌+◌, ◌-◌, ◌<◌, ◌≤◌, List, [], ◌∷◌, ◌++◌, length, get_or, map, replicate, refl, ap, ap₂, sym, ◌∙◌, subst, arith, Option, ⊎_elim, length-append, append_assoc}
+use Rattle.std.proofs.Common.{◌≡◌, ℕ, zero, suc, ◌+◌, ◌-◌, ◌<◌, ◌≤◌, List, [], ◌∷◌, ◌++◌, length, get_or, map, replicate, refl, ap, ap₂, sym, ◌∙◌, arith, Option, ⊎_elim, length-append, append_assoc}
 use Rattle.std.proofs.lemmas.Bool.{cases_lt}
 use Rattle.std.proofs.lemmas.List.{append-nil, length-map, length-replicate, get_or_append_left, get_or-append-add}
 use Rattle.std.proofs.Math.ListN.{get_or-map}
@@ -13,7 +13,7 @@ use Rattle.pc_presentation.specs.Pcp.{HasShape, row_of}
 use Rattle.pc_presentation.proofs.presentations.RelationTables.{per_relation-shape}
 use Rattle.pc_presentation.proofs.rows.FlatLaws.{length-followed_by, get_or-followed_by}
 use Rattle.p_cover.specs.RowedAnswer.{rowed}
-use Rattle.p_cover.specs.Covers.{CoverOf, cover_presentation, covering}
+use Rattle.p_cover.specs.Covers.{CoverOf, cover_presentation}
 use Rattle.p_cover.specs.Sources.{relation_source, place_in}
 use Rattle.cover_quotient.specs.Carried.{carried}
 use Rattle.cover_quotient.specs.Kept.{kept_columns, kept_rows}
@@ -202,12 +202,12 @@ module _ (C : CoverOf) (bs : List BasisRow) (shaped : IsShaped C.answer) where
         let d = shaped.powers in (
           power_row Z j,
           get_or_append_left (followed_by C.answer.presentation.powers Z.power_rows) (tail_powers w) [] j (omega arith)
-          ∙ get_or-followed_by C.answer.presentation.powers Z.power_rows j same_powers,
+              ∙ get_or-followed_by C.answer.presentation.powers Z.power_rows j same_powers,
         );
     commutators = λ j i l m. (
       commutator_row Z j i,
       ap (λ (x : List (List ℕ)). get_or x i []) (flat_commutators j l)
-      ∙ get_or-followed_by (get_or C.answer.presentation.commutators j []) (get_or Z.commutator_rows j []) i (same_row j l),
+          ∙ get_or-followed_by (get_or C.answer.presentation.commutators j []) (get_or Z.commutator_rows j []) i (same_row j l),
     );
     definitions = (kept_sources C bs, refl);
     weights = (replicate w (suc (class_of C.answer)), refl);

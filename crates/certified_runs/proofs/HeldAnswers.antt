@@ -1,7 +1,7 @@
 -- The answers that the lines of held steps build are those of the steps.
 use Rattle.std.proofs.Common.{◌≡◌, ◌≢◌, ◌⊎◌, ℕ, zero, suc, ◌+◌, ◌-◌, ◌<◌, ◌≤◌, List, [], ◌∷◌, ◌++◌, length, get_or, map, refl, ap, ap₂, sym, ◌∙◌, subst, arith, inl, inr, ⊎_elim}
 use Rattle.std.proofs.lemmas.Bool.{cases_lt}
-use Rattle.std.proofs.lemmas.List.{get_or-map, length-append, length-map, map-append}
+use Rattle.std.proofs.lemmas.List.{get_or-map, length-append}
 use Rattle.pq_base.specs.LPresentation.{LPresentation}
 use Rattle.pq_base.specs.Answer.{Answer}
 use Rattle.pc_presentation.specs.Rowed.{RowedPresentation}
@@ -9,13 +9,13 @@ use Rattle.pc_presentation.specs.Collection.{State}
 use Rattle.pc_presentation.specs.Parts.{trivial_answer}
 use Rattle.pc_presentation.specs.declared.overlap.Overlap.{Overlap}
 use Rattle.p_cover.specs.Covers.{CoverOf}
-use Rattle.cover_quotient.specs.NextAnswer.{combined_answer, eliminated}
+use Rattle.cover_quotient.specs.NextAnswer.{eliminated}
 use Rattle.derivation_log.specs.declared.source.Run.{Run}
 use Rattle.derivation_log.specs.HeldSteps.{HeldStep}
-use Rattle.derivation_log.specs.HeldRuns.{IsHeldStep, kept_by, AreHeldSteps, AreStoppedSteps, IsHeldRun}
+use Rattle.derivation_log.specs.HeldRuns.{IsHeldStep, kept_by, AreHeldSteps, AreStoppedSteps}
 use Rattle.derivation_log.specs.HeldLines.{held_lines, IsTold}
 use Rattle.derivation_log.specs.Certificates.{StepLines, Certificate, steps_of, step_of}
-use Rattle.derivation_log.specs.CertificateRuns.{kept_in, combinations_in, next_where, next_by, answer_after, cover_at, kept_at}
+use Rattle.derivation_log.specs.CertificateRuns.{next_where, next_by, answer_after}
 use Rattle.derivation_log.proofs.HeldCombinations.{held_lines_make_what_the_basis_makes}
 
 -- a step that stands for none

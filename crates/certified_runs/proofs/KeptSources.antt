@@ -1,12 +1,10 @@
 -- A tail that a step keeps may be kept, where the answer that the run ends with is an answer: it defines a generator there by its
 -- source, so the source's right side is that generator alone, and was empty before.
-use Rattle.std.proofs.Common.{◌≡◌, ◌≢◌, ℕ, zero, suc, ◌+◌, ◌-◌, ◌<◌, ◌≤◌, ℤ, pos, List, [], ◌∷◌, ◌++◌, length, get_or, map, replicate, refl, ap, ap₂, sym, ◌∙◌, subst, arith, length-append, append_assoc}
-use Rattle.std.specs.List.{All}
+use Rattle.std.proofs.Common.{◌≡◌, ℕ, zero, suc, ◌+◌, ◌<◌, ◌≤◌, ℤ, pos, List, [], ◌∷◌, ◌++◌, length, get_or, replicate, refl, ap, sym, ◌∙◌, subst, arith, length-append, append_assoc}
 use Rattle.std.proofs.lemmas.List.{get_or_append_left, get_or-append-add, length-replicate}
 use Rattle.std.proofs.lemmas.List.Elements.{All-from_get_or}
 use Rattle.pq_base.specs.Limits.{max_class}
 use Rattle.pq_base.specs.SignedWord.{IsLetter, HasLetters}
-use Rattle.pq_base.specs.Prime.{IsOffered}
 use Rattle.pq_base.specs.Presentation.{letter, word_from, power_side, commutator_side, power_word, commutator_word}
 use Rattle.pq_base.specs.Answer.{Answer, Definition as Source, IsAnswer, HasDefinition, AreWeights, class_of, weight_at, definition_at}
 use Rattle.pq_base.specs.Answer.Definition.{image, commutator, power}
@@ -22,7 +20,7 @@ use Rattle.cover_quotient.specs.Kept.{kept_columns}
 use Rattle.cover_quotient.specs.NextAnswer.{kept_sources, eliminated}
 use Rattle.cover_quotient.proofs.kept_tails.CoverUnits.{HasUnitRows, cover-units}
 use Rattle.cover_quotient.proofs.kept_tails.EliminatedAnswers.{kept_source-is, length-kept_sources}
-use Rattle.certified_runs.proofs.Extensions.{IsShaped, Extends}
+use Rattle.certified_runs.proofs.Extensions.{Extends}
 
 -- weights are at most the greatest class
 weight-limit : (ws : List ℕ) (least k : ℕ) → AreWeights least ws → k < length ws → get_or ws k 0 ≤ max_class
@@ -98,7 +96,7 @@ module _ (C : CoverOf) (bs : List BasisRow) (over : IsBasisOver C bs) (big : 1 <
       let side : commutator_side B.presentation j i ≡ (commutator_side N.presentation j i ++ x.0) ++ y.0 =
       y.1 ∙ ap (λ (z : List ℕ). z ++ y.0) x.1 in
       let words : commutator_word B.presentation j i
-          ≡ commutator_word N.presentation j i ++ word_from (suc j + length (commutator_side N.presentation j i)) (x.0 ++ y.0) =
+      ≡ commutator_word N.presentation j i ++ word_from (suc j + length (commutator_side N.presentation j i)) (x.0 ++ y.0) =
       ap (word_from (suc j)) (side ∙ append_assoc (commutator_side N.presentation j i) x.0 y.0)
       ∙ word_from-append (suc j) (commutator_side N.presentation j i) (x.0 ++ y.0) in
       front-empty n m (commutator_word N.presentation j i) (word_from (suc j + length (commutator_side N.presentation j i)) (x.0 ++ y.0))

@@ -1,12 +1,12 @@
 -- Words of a consistent answer that obey the relators of a largest quotient: what the generators of the quotient spell under these
 -- words satisfies the relations of the quotient, and makes its images these words.
-use Rattle.std.proofs.Common.{◌≡◌, ℕ, zero, suc, ◌+◌, ◌<◌, ℤ, List, [], ◌∷◌, ◌++◌, length, get_or, map, refl, ap, ap₂, sym, ◌∙◌, subst, arith, length-append}
+use Rattle.std.proofs.Common.{◌≡◌, ℕ, ◌+◌, ◌<◌, ℤ, List, [], ◌∷◌, ◌++◌, length, get_or, map, ap, sym, ◌∙◌, subst, arith, length-append}
 use Rattle.std.proofs.lemmas.List.{length-map, ext_get_or}
 use Rattle.std.proofs.Math.ListN.{get_or-map}
 use Rattle.pq_base.specs.SignedWord.{sub, HasLetters}
 use Rattle.pq_base.specs.LPresentation.{LPresentation, IsRelator, AreWords, Obeys}
 use Rattle.pq_base.specs.Table.{Table, AllBelow, HasTableClass, value}
-use Rattle.pq_base.specs.Presentation.{Presentation, IsRelatorOf, letter}
+use Rattle.pq_base.specs.Presentation.{IsRelatorOf}
 use Rattle.pq_base.specs.Joined.{Joined, IsConsistent}
 use Rattle.pq_base.specs.Series.{HasClass}
 use Rattle.pq_base.specs.Answer.{Answer, Definition, IsAnswer, spelled, spellings, spell, image_words}

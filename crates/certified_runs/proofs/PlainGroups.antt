@@ -1,24 +1,20 @@
 -- Elements of a consistent answer by the plain rule: they are equal where their words are joined, each word has one, and a word has
 -- a value under elements where its word under theirs is joined to the value's.
-use Rattle.std.proofs.Common.{◌≡◌, ◌≢◌, ℕ, zero, suc, ◌+◌, ◌-◌, ◌<◌, ◌≤◌, ℤ, List, [], ◌∷◌, ◌++◌, length, get_or, map, replicate, refl, ap, ap₂, sym, ◌∙◌, subst, arith}
-use Rattle.std.proofs.lemmas.List.{length-map}
-use Rattle.std.proofs.Math.ListN.{get_or-map}
+use Rattle.std.proofs.Common.{◌≡◌, ℕ, zero, suc, ◌<◌, ℤ, List, [], ◌∷◌, ◌++◌, length, get_or, map, refl, ap, ap₂, sym, ◌∙◌, subst, arith}
 use Rattle.pq_base.specs.SignedWord.{sub, HasLetters}
-use Rattle.pq_base.specs.Presentation.{Presentation, IsPresentation, IsNormal, normal_word}
+use Rattle.pq_base.specs.Presentation.{Presentation, IsNormal, normal_word}
 use Rattle.pq_base.specs.Joined.{Joined, IsConsistent}
 use Rattle.pq_base.specs.Answer.{Answer, IsAnswer, AreNormal, image_words}
 use Rattle.pq_base.proofs.words.JoinedLaws.{joined-sym, joined-trans, joined-from_equal}
 use Rattle.pc_presentation.specs.Rowed.{RowedPresentation, IsRowed, without_rows, flat}
-use Rattle.pc_presentation.specs.Collection.{State, IsState, identity, plain_push, configuration_of, letters, spelled}
-use Rattle.pc_presentation.specs.Arithmetic.{IsMeaning, HasArithmetic, IsQuotient, product_by, word_of, evaluate_from, AreImages}
+use Rattle.pc_presentation.specs.Collection.{State, IsState, plain_push, letters, spelled}
+use Rattle.pc_presentation.specs.Arithmetic.{IsMeaning, HasArithmetic, IsQuotient, word_of, evaluate_from, AreImages}
 use Rattle.pc_presentation.proofs.rows.FlatLaws.{without_rows-rowed, flat-without_rows}
 use Rattle.pc_presentation.proofs.quotients.CollectorArithmetic.{collectors_have_arithmetic, plain_rule_is_a_meaning, identity-word}
 use Rattle.pc_presentation.proofs.quotients.WordValues.{value-state}
-use Rattle.pc_presentation.proofs.quotients.Quotients.{product-state}
-use Rattle.derivation_log.specs.PlainValues.{bare_state, identity_of, plain_product, IsValue, images_of, IsCarriedToIdentity}
+use Rattle.derivation_log.specs.PlainValues.{bare_state, identity_of, plain_product, IsValue, images_of}
 use Rattle.pc_presentation.proofs.rows.RowLaws.{identity-state}
 use Rattle.pc_presentation.proofs.consistent.LetterWords.{letters-spelled}
-use Rattle.pq_base.specs.SignedWord.{inv, comm}
 use Rattle.std.proofs.lemmas.List.{append-nil}
 
 no_entries : (x : List ℕ) → length x ≡ 0 → x ≡ []

@@ -1,36 +1,35 @@
 -- What a run builds are answers, and each step keeps tails that may be kept, within the limit on ranks: where the last answer is one.
-use Rattle.std.proofs.Common.{◌≡◌, ◌≢◌, ◌⊎◌, ℕ, zero, suc, ◌+◌, ◌-◌, ◌<◌, ◌≤◌, List, [], ◌∷◌, length, get_or, map, refl, ap, ap₂, sym, ◌∙◌, subst, arith, inl, inr, ⊎_elim}
+use Rattle.std.proofs.Common.{◌≡◌, ◌≢◌, ◌⊎◌, ℕ, zero, suc, ◌+◌, ◌-◌, ◌<◌, ◌≤◌, List, [], ◌∷◌, length, get_or, refl, ap, sym, ◌∙◌, subst, arith, inl, inr, ⊎_elim}
 use Rattle.std.specs.List.{All}
 use Rattle.std.proofs.lemmas.Bool.{cases_eq}
 use Rattle.std.proofs.lemmas.List.Elements.{All-nil}
-use Rattle.pq_base.specs.Limits.{max_names, max_rank}
+use Rattle.pq_base.specs.Limits.{max_rank}
 use Rattle.pq_base.specs.LPresentation.{LPresentation, AreDistinct}
 use Rattle.pq_base.specs.Prime.{IsOffered}
-use Rattle.pq_base.specs.Answer.{Answer, Definition as Source, IsAnswer, class_of}
+use Rattle.pq_base.specs.Answer.{Answer, IsAnswer, class_of}
 use Rattle.pq_base.proofs.PrimeLaws.{offered-two}
-use Rattle.fp_echelon.specs.Reduced.{BasisRow, IsReduced}
+use Rattle.fp_echelon.specs.Reduced.{IsReduced}
 use Rattle.pc_presentation.specs.Collection.{plain_push}
 use Rattle.pc_presentation.specs.Parts.{trivial_answer}
 use Rattle.pc_presentation.specs.declared.overlap.Overlap.{Overlap}
-use Rattle.p_cover.specs.Covers.{CoverOf, IsCover, all_sources}
+use Rattle.p_cover.specs.Covers.{CoverOf, all_sources}
 use Rattle.p_cover.proofs.PartLaws.{part_of_itself}
 use Rattle.cover_quotient.specs.AnswerLaws.{IsBasisOver, IsNextAnswer}
 use Rattle.cover_quotient.specs.Defining.{MayBeKept}
-use Rattle.cover_quotient.specs.Kept.{kept_columns}
 use Rattle.cover_quotient.specs.NextAnswer.{sources_at, kept_sources, eliminated}
 use Rattle.cover_quotient.specs.Stages.{full_cover_of}
 use Rattle.cover_quotient.proofs.next_answers.AnswerLaws.{next_answers_are_answers}
 use Rattle.cover_quotient.proofs.stages.FirstStages.{trivial_answers_are_stages}
 use Rattle.derivation_log.specs.declared.source.Run.{Run}
 use Rattle.derivation_log.specs.HeldSteps.{HeldStep}
-use Rattle.derivation_log.specs.HeldRuns.{IsHeldStep, kept_by}
+use Rattle.derivation_log.specs.HeldRuns.{kept_by}
 use Rattle.derivation_log.specs.HeldLines.{held_lines}
-use Rattle.derivation_log.specs.Certificates.{StepLines, Certificate, step_of}
-use Rattle.derivation_log.specs.CertificateRuns.{kept_in, kept_sources_in, next_by, answer_after, cover_at, kept_at}
+use Rattle.derivation_log.specs.Certificates.{Certificate, step_of}
+use Rattle.derivation_log.specs.CertificateRuns.{kept_in, next_by, answer_after, cover_at}
 use Rattle.derivation_log.specs.CertificateParts.{full_kind, GiveAnswer}
 use Rattle.derivation_log.proofs.HeldCombinations.{held_lines_make_what_the_basis_makes}
 use Rattle.certified_runs.proofs.HeldAnswers.{no_step, IsRunOf, next-held, next-stopped}
-use Rattle.certified_runs.proofs.RunParts.{step-is, kept-is, held-is}
+use Rattle.certified_runs.proofs.RunParts.{step-is}
 use Rattle.certified_runs.proofs.Extensions.{IsShaped, Extends, answer-shaped, extends-self, extends-trans, shaped-next, extends-next}
 use Rattle.certified_runs.proofs.KeptSources.{kept-may_be_kept, kept-few}
 

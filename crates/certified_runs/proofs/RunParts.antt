@@ -1,17 +1,16 @@
 -- Parts that hold of a run of a certificate that is made of held steps over all tails and overlaps, by the plain rule.
-use Rattle.std.proofs.Common.{◌≡◌, ◌≢◌, ◌⊎◌, ℕ, zero, suc, ◌+◌, ◌-◌, ◌<◌, ◌≤◌, List, [], ◌∷◌, length, get_or, map, refl, ap, ap₂, sym, ◌∙◌, subst, arith, inl, inr, ⊎_elim}
+use Rattle.std.proofs.Common.{◌≡◌, ℕ, ◌-◌, ◌≤◌, List, [], length, get_or, ap, sym, ◌∙◌, subst, arith, inl, inr, ⊎_elim}
 use Rattle.std.proofs.lemmas.List.{get_or-map, length-map}
 use Rattle.pq_base.specs.LPresentation.{LPresentation}
 use Rattle.pq_base.specs.Answer.{Answer}
 use Rattle.pc_presentation.specs.Collection.{plain_push}
 use Rattle.pc_presentation.specs.declared.overlap.Overlap.{Overlap}
-use Rattle.p_cover.specs.Covers.{CoverOf}
 use Rattle.cover_quotient.specs.Stages.{full_cover_of}
 use Rattle.derivation_log.specs.declared.source.Run.{Run}
 use Rattle.derivation_log.specs.HeldSteps.{HeldStep}
 use Rattle.derivation_log.specs.HeldRuns.{IsHeldStep, kept_by}
 use Rattle.derivation_log.specs.HeldLines.{held_lines}
-use Rattle.derivation_log.specs.Certificates.{StepLines, Certificate, steps_of, step_of, presentation_of}
+use Rattle.derivation_log.specs.Certificates.{StepLines, Certificate, steps_of, step_of}
 use Rattle.derivation_log.specs.CertificateRuns.{kept_in, answer_after, cover_at, kept_at}
 use Rattle.derivation_log.specs.CertificateParts.{full_kind, IsNotExtra, HavePlainRows, AreSumsOfRows, IsNotShort, built_by}
 use Rattle.derivation_log.proofs.HeldCombinations.{held_lines_make_what_the_basis_makes}
@@ -73,8 +72,10 @@ module _ (tested : Answer → Overlap → Type 0) (c : Certificate) (run : Run) 
       let some = is.some in
       ⊎_elim (λ count. inl (omega arith))
       (λ none.
-      inr ((let one : 1 ≤ length (steps_of c run) = omega arith in one),
-      ap (kept_at full_cover_of c run) long ∙ kept-is (length ss) some (omega arith) ∙ none))
+      inr (
+        (let one : 1 ≤ length (steps_of c run) = omega arith in one),
+        ap (kept_at full_cover_of c run) long ∙ kept-is (length ss) some (omega arith) ∙ none,
+      ))
       is.last
 
   -- the answer that the run builds

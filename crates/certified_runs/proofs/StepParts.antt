@@ -1,31 +1,18 @@
 -- Of a held step by the plain rule each source has a plain row, and each line is a sum of them.
-use Rattle.std.proofs.Common.{◌≡◌, ◌⊎◌, ℕ, suc, ◌+◌, ◌-◌, ◌<◌, ◌≤◌, List, [], ◌∷◌, length, get_or, map, filter, refl, ap, ap₂, sym, ◌∙◌, subst, arith}
-use Rattle.std.specs.List.{All, AllZip}
-use Rattle.std.proofs.lemmas.List.Elements.{All-map, All-filter, filter_passes}
+use Rattle.std.proofs.Common.{[], get_or, arith}
 use Rattle.pq_base.specs.LPresentation.{LPresentation}
-use Rattle.pq_base.specs.Canonical.{numbers_from}
-use Rattle.pq_base.proofs.NumberLists.{All-numbers}
-use Rattle.fp_rows.specs.Differences.{difference}
-use Rattle.fp_echelon.specs.Span.{combine}
-use Rattle.fp_echelon.specs.Reduced.{BasisRow, pivots_of, IsPivot, IsReduced}
-use Rattle.fp_echelon.specs.Basis.{IsBasis, AreSums}
-use Rattle.pc_presentation.specs.Pcp.{unit_row}
 use Rattle.pc_presentation.specs.Collection.{plain_push}
 use Rattle.pc_presentation.specs.Tailed.{rowed_presentation}
 use Rattle.pc_presentation.specs.declared.overlap.Overlap.{Overlap}
 use Rattle.p_cover.specs.Covers.{CoverOf, cover_presentation}
-use Rattle.cover_quotient.specs.Kept.{is_listed}
-use Rattle.cover_quotient.proofs.kept_tails.KeptColumns.{listed_pivot}
 use Rattle.derivation_log.specs.declared.source.RowSource.{RowSource}
 use Rattle.derivation_log.specs.declared.source.RowSource.TheVariants.{Test, Fixed, Iterated}
 use Rattle.derivation_log.proofs.RowSources.{rows_of-at}
-use Rattle.derivation_log.specs.HeldSteps.{HeldStep, held_basis}
+use Rattle.derivation_log.specs.HeldSteps.{HeldStep}
 use Rattle.derivation_log.specs.HeldRuns.{IsTestedSource, IsHeldStep}
 use Rattle.derivation_log.specs.HeldLines.{held_lines, IsTold}
 use Rattle.derivation_log.proofs.HeldSums.{held_lines_are_sums}
-use Rattle.derivation_log.specs.Certificates.{TailLine}
-use Rattle.derivation_log.specs.CertificateRuns.{row_of_pairs}
-use Rattle.derivation_log.specs.CertificateParts.{full_kind, HasPlainRow, HavePlainRows, IsSumOfRows, AreSumsOfRows}
+use Rattle.derivation_log.specs.CertificateParts.{full_kind, HavePlainRows, AreSumsOfRows}
 
 -- each overlap may be named by a step over all of them
 any-tested : (s : RowSource) → IsTestedSource (λ (o : Overlap). Unit {0}) s

@@ -40,7 +40,8 @@ spelled_under B F = map (λ (w : List ℤ). sub w F) (spelling_words B)
 pub spelled_under-at : (B : Answer) (F : List (List ℤ)) (k : ℕ) → get_or (spelled_under B F) k [] ≡ sub (spell B k) F
 spelled_under-at B F k = get_or-map (λ (w : List ℤ). sub w F) (spelling_words B) k []
 
-AreWords-map_sub : (n : ℕ) (F words : List (List ℤ)) → AreWords n F → AreWords n (map (λ (w : List ℤ). sub w F) words)
+-- substituted words are over the letters of what is put in
+pub AreWords-map_sub : (n : ℕ) (F words : List (List ℤ)) → AreWords n F → AreWords n (map (λ (w : List ℤ). sub w F) words)
 AreWords-map_sub n F [] are = tt
 AreWords-map_sub n F (w ∷ words) are = (HasLetters-sub n w F are, AreWords-map_sub n F words are)
 

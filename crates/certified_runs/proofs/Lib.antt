@@ -10,3 +10,4 @@ pub mod LargestMaps
 pub mod PlainMaps
 pub mod MapParts
 pub mod CertifiedRuns
+pub mod GivenRuns

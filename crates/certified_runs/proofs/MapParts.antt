@@ -24,7 +24,7 @@ use Rattle.pc_presentation.specs.Arithmetic.{word_of}
 use Rattle.cover_quotient.proofs.stages.ImageNumbers.{AreWords-image_words}
 use Rattle.derivation_log.specs.PlainValues.{bare_state, identity_of, images_of, MakeMap, AreValues, InducesPlainly}
 use Rattle.certified_runs.proofs.PlainGroups.{AreElements, state-bare, bare-word, value-known, words-of_images, elements-of_images}
-use Rattle.certified_runs.proofs.LargestMaps.{relators-satisfied, images-made}
+use Rattle.certified_runs.proofs.LargestMaps.{AreWords-map_sub, relators-satisfied, images-made}
 use Rattle.certified_runs.proofs.PlainMaps.{HaveElements, elements-of, elements-are, word-at, makes-map}
 
 -- words of elements
@@ -79,10 +79,6 @@ endo-shape : (n : ℕ) (endos : List (List (List ℤ))) (i : ℕ) → i < length
 endo-shape n [] i l are = absurd (omega arith)
 endo-shape n (f ∷ endos) zero l are = (are.0, are.1)
 endo-shape n (f ∷ endos) (suc i) l are = endo-shape n endos i (omega arith) are.2
-
-AreWords-map_sub : (n : ℕ) (F words : List (List ℤ)) → AreWords n F → AreWords n (map (λ (w : List ℤ). sub w F) words)
-AreWords-map_sub n F [] are = tt
-AreWords-map_sub n F (w ∷ words) are = (HasLetters-sub n w F are, AreWords-map_sub n F words are)
 
 module _ (L : LPresentation) (words : IsLPresentation L) (none : length L.fixed ≡ 0) (p c : ℕ) (A : Answer) (largest : IsLargest L p c A) where
   is : IsAnswer A

@@ -15,7 +15,7 @@ use Rattle.derivation_log.proofs.HeldSums.{held_lines_are_sums}
 use Rattle.derivation_log.specs.CertificateParts.{full_kind, HavePlainRows, AreSumsOfRows}
 
 -- each overlap may be named by a step over all of them
-any-tested : (s : RowSource) → IsTestedSource (λ (o : Overlap). Unit {0}) s
+pub any-tested : (s : RowSource) → IsTestedSource (λ (o : Overlap). Unit {0}) s
 any-tested (Test o) = tt
 any-tested (Fixed i) = tt
 any-tested (Iterated i s) = tt

@@ -1,7 +1,6 @@
 -- What a tower says of its runs is what the laws ask for: a run in which some overlaps are tested is one in which any may be, and where
 -- no largest quotient has an order above the limit on ranks, the rank is within it.
-use Rattle.std.proofs.Common.{◌≡◌, ◌≢◌, ◌⊎◌, ℕ, ◌<◌, ◌≤◌, List, [], ◌∷◌, length, inl, inr, ⊎_elim, arith}
-use Rattle.std.specs.List.{All}
+use Rattle.std.proofs.Common.{ℕ, ◌<◌, ◌≤◌, List, [], ◌∷◌, inl, inr, ⊎_elim, arith}
 use Rattle.std.proofs.lemmas.Bool.{cases_lt}
 use Rattle.pq_base.specs.Limits.{max_rank}
 use Rattle.pq_base.specs.LPresentation.{LPresentation}
@@ -15,7 +14,7 @@ use Rattle.p_cover.specs.Covers.{CoverOf}
 use Rattle.cover_quotient.specs.NextAnswer.{eliminated}
 use Rattle.cover_quotient.proofs.stages.LargestOrders.{largest_quotients_have_the_order}
 use Rattle.derivation_log.specs.HeldSteps.{HeldStep}
-use Rattle.derivation_log.specs.HeldRuns.{IsHeldStep, AreHeldSteps, AreStoppedSteps, IsHeldRun}
+use Rattle.derivation_log.specs.HeldRuns.{IsHeldStep, AreHeldSteps, IsHeldRun}
 use Rattle.derivation_log.specs.CertificateParts.{full_kind}
 use Rattle.certified_runs.proofs.StepParts.{any-tested}
 

@@ -11,3 +11,4 @@ pub mod PlainMaps
 pub mod MapParts
 pub mod CertifiedRuns
 pub mod GivenRuns
+mod RunVectors

@@ -14,7 +14,7 @@ use Rattle.pq_base.specs.Series.{HasClass}
 use Rattle.pq_base.specs.Answer.{Answer, IsAnswer, image_words}
 use Rattle.pq_base.specs.Largest.{IsLargest}
 use Rattle.pq_base.proofs.words.WordLaws.{sub-sub}
-use Rattle.pq_base.proofs.words.LetterLaws.{HasLetters-get_or, HasLetters-normal_word, HasLetters-sub}
+use Rattle.pq_base.proofs.words.LetterLaws.{HasLetters-get_or, HasLetters-normal_word}
 use Rattle.pq_base.proofs.words.AlongLaws.{HasLetters-IsRelator}
 use Rattle.pq_base.proofs.words.JoinedLaws.{joined-sym, joined-trans, joined-from_equal}
 use Rattle.pq_base.proofs.words.WordGroup.{joined-sub_same}

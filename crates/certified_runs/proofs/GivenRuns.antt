@@ -17,6 +17,14 @@ use Rattle.derivation_log.specs.HeldSteps.{HeldStep}
 use Rattle.derivation_log.specs.HeldRuns.{IsHeldStep, AreHeldSteps, IsHeldRun}
 use Rattle.derivation_log.specs.CertificateParts.{full_kind}
 use Rattle.certified_runs.proofs.StepParts.{any-tested}
+use Rattle.pq_base.specs.Prime.{IsOffered}
+use Rattle.pq_base.proofs.PrimeLaws.{offered-two}
+use Rattle.pc_presentation.specs.Collection.{plain_push}
+use Rattle.cover_quotient.specs.Stages.{full_cover_of}
+use Rattle.derivation_log.specs.declared.source.Run.{Run}
+use Rattle.derivation_log.specs.HeldLines.{AreLinesOf}
+use Rattle.derivation_log.specs.Certificates.{Certificate, steps_of, presentation_of}
+use Rattle.certified_runs.specs.RunLaws.{IsRunToLargest}
 
 module _ (L : LPresentation) (meaning : RowedPresentation → State → ℕ → State) (cover : Answer → CoverOf)
     (tested : Answer → Overlap → Type 0) where
@@ -54,3 +62,20 @@ pub rank-within : (L : LPresentation) (p c : ℕ) (A : Answer) → 1 < p → IsL
 rank-within L p c A big largest small =
     ⊎_elim (λ large. absurd (small A.presentation.rank large (largest_quotients_have_the_order L p c A big largest))) (λ few. omega arith)
     (cases_lt max_rank A.presentation.rank)
+
+-- so the run of a tower, whose lines are those of a certificate, is one to the largest quotient
+pub run-given : (tested : Answer → Overlap → Type 0) (c : Certificate) (run : Run) (A : Answer) (steps : List HeldStep) → IsOffered c.prime
+    → 1 ≤ c.class → AreLinesOf (steps_of c run) steps
+    → IsHeldRun (presentation_of c run) plain_push full_cover_of tested c.prime c.class steps A
+    → IsLargest (presentation_of c run) c.prime c.class A
+    → ((r : ℕ) → max_rank < r → ¬ HasOrder (presentation_of c run) c.prime c.class r) → IsRunToLargest c run A
+run-given tested c run A steps offered some lines held largest small = record {
+  made = record {
+    some_class = some;
+    steps = steps;
+    lines = lines;
+    held = any-run (presentation_of c run) plain_push full_cover_of tested c.prime c.class steps A held;
+  };
+  largest = largest;
+  rank_limit = rank-within (presentation_of c run) c.prime c.class A (offered-two c.prime offered) largest small;
+}

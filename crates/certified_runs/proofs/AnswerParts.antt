@@ -29,7 +29,8 @@ consistent-overlaps A is consistent o numbers any =
     (plain_push (without_rows A.presentation)) (meaning-here A is) (overlap_of o) (overlap_of-is A.presentation.rank o numbers)
 
 module _ (A : Answer) (is : IsAnswer A) (consistent : IsConsistent A.presentation) where
-  pub dead-carried : (w : List ℤ) → HasLetters (length A.names) w → Joined A.presentation (sub w (image_words A)) [] → IsCarriedToIdentity A w
+  pub dead-carried : (w : List ℤ) → HasLetters (length A.names) w → Joined A.presentation (sub w (image_words A)) []
+      → IsCarriedToIdentity A w
   dead-carried w l dies =
       let long : length (images_of A) ≡ length A.names = length-map A.images bare_state ∙ is.image_count in
       value-known A is consistent (images_of A) (elements-of_images A is consistent) w

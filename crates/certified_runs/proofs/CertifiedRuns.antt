@@ -46,7 +46,8 @@ run-of c run A is =
     run-held (presentation_of c run) plain_push full_cover_of full_kind.tested (λ D. refl) c run is.steps A is.lines.are
     (told-at is.steps is.lines.told)
     (subst
-    (λ (ns : List (List ℕ)). (AreHeldSteps (presentation_of c run) plain_push full_cover_of full_kind.tested (trivial_answer c.prime ns) is.steps A
+    (λ (ns : List (List ℕ)). (AreHeldSteps (presentation_of c run) plain_push full_cover_of full_kind.tested
+    (trivial_answer c.prime ns) is.steps A
     × (length is.steps ≡ c.class))
     ⊎ AreStoppedSteps (presentation_of c run) plain_push full_cover_of full_kind.tested c.class (trivial_answer c.prime ns) is.steps A)
     (names-of c run) is.held) is.some_class
@@ -199,7 +200,8 @@ module _ (c : Certificate) (words : IsLPresentation c.presentation) (offered : I
 
     pub run-passes : All (Passes full_kind c) (run_trials c run)
     run-passes =
-        let always : List Trial = last_trial c run part_of_run.Short ∷ last_trial c run part_of_run.Overlap ∷ last_trial c run part_of_run.Iterated ∷ [] in
+        let always : List Trial =
+        last_trial c run part_of_run.Short ∷ last_trial c run part_of_run.Overlap ∷ last_trial c run part_of_run.Iterated ∷ [] in
         let endos : List Trial = cond (judges_endos c.presentation run) (last_trial c run part_of_run.Endo ∷ []) [] in
         All-append (Passes full_kind c) (flat_map (step_trials run) (numbers_from 1 (length (steps_of c run)))) (always ++ endos)
         (All-flat_map (Passes full_kind c) (step_trials run) 1 (length (steps_of c run)) (λ k l m. step k l (omega arith)))

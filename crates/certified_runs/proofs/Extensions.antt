@@ -129,14 +129,16 @@ module _ (C : CoverOf) (bs : List BasisRow) (shaped : IsShaped C.answer) where
 
   commutator_count : length Z.commutator_rows ≡ n
   commutator_count =
-      length-map (map (λ (row : List (Option ℕ)). map own row) (cover_presentation C).tail_table.commutators) (λ (r : List (List ℕ)). map carry r)
+      length-map (map (λ (row : List (Option ℕ)). map own row) (cover_presentation C).tail_table.commutators)
+      (λ (r : List (List ℕ)). map carry r)
       ∙ length-map (cover_presentation C).tail_table.commutators (λ (row : List (Option ℕ)). map own row)
       ∙ shape.row_count
 
   row_count : (j : ℕ) → j < C.answer.presentation.rank → length (get_or Z.commutator_rows j []) ≡ j
   row_count j l =
       ap (λ (r : List (List ℕ)). length r)
-      (get_or-map (λ (r : List (List ℕ)). map carry r) (map (λ (row : List (Option ℕ)). map own row) (cover_presentation C).tail_table.commutators) j []
+      (get_or-map (λ (r : List (List ℕ)). map carry r)
+      (map (λ (row : List (Option ℕ)). map own row) (cover_presentation C).tail_table.commutators) j []
       ∙ ap (map carry) (get_or-map (λ (row : List (Option ℕ)). map own row) (cover_presentation C).tail_table.commutators j []))
       ∙ twice-length carry own (get_or (cover_presentation C).tail_table.commutators j [])
       ∙ shape.row_lengths j l

@@ -80,7 +80,8 @@ module _ (L : LPresentation) (meaning : RowedPresentation → State → ℕ → 
       let line : step_of c run (suc n) ≡ held_lines s =
       ap (λ (k : ℕ). step_of c run (suc k)) (sym e0) ∙ at.lines 0 (omega arith) in
       let next : answer_after cover c run (suc n) ≡ eliminated (cover A) s.rows =
-      ap₂ (λ (D : Answer) (l : StepLines). next_by (cover D) l) here line ∙ next-held (cover A) (tested A) s (at.told 0 (omega arith)) all.0 all.1 in
+      ap₂ (λ (D : Answer) (l : StepLines). next_by (cover D) l) here line
+      ∙ next-held (cover A) (tested A) s (at.told 0 (omega arith)) all.0 all.1 in
       let rest : AreBuilt c run (suc n) ss B =
       steps-built c run (suc n) (eliminated (cover A) s.rows) ss B all.2 next
       (record {
@@ -193,7 +194,8 @@ module _ (L : LPresentation) (meaning : RowedPresentation → State → ℕ → 
               (λ not_before.
               let last : length es ≡ k = omega arith in
               subst
-              (λ (m : ℕ). IsHeldStep L meaning (cover (answer_after cover c run m)) (tested (answer_after cover c run m)) (get_or ss m no_step))
+              (λ (m : ℕ). IsHeldStep L meaning (cover (answer_after cover c run m)) (tested (answer_after cover c run m))
+              (get_or ss m no_step))
               last
               (subst
               (IsHeldStep L meaning (cover (answer_after cover c run (length es))) (tested (answer_after cover c run (length es))))
@@ -201,7 +203,8 @@ module _ (L : LPresentation) (meaning : RowedPresentation → State → ℕ → 
               (cases_lt k (length es));
           kept = λ k l.
               let before : k < length es = omega arith in
-              subst (λ (s : HeldStep). kept_by (cover (answer_after cover c run k)) s ≢ []) (sym (front k before)) (built-at es B b k before).kept;
+              subst (λ (s : HeldStep). kept_by (cover (answer_after cover c run k)) s ≢ []) (sym (front k before))
+              (built-at es B b k before).kept;
           last =
               let place : length ss - 1 ≡ length es = omega arith in
               inr (ap (λ (m : ℕ). kept_by (cover (answer_after cover c run m)) (get_or ss m no_step)) place
@@ -213,6 +216,7 @@ module _ (L : LPresentation) (meaning : RowedPresentation → State → ℕ → 
 
     -- a run whose steps are those of the certificate
     pub run-held : (AreHeldSteps L meaning cover tested (trivial_answer c.prime c.presentation.names) ss B × (length ss ≡ c.class))
-        ⊎ AreStoppedSteps L meaning cover tested c.class (trivial_answer c.prime c.presentation.names) ss B → 1 ≤ c.class → IsRunOf c run ss B
+        ⊎ AreStoppedSteps L meaning cover tested c.class (trivial_answer c.prime c.presentation.names) ss B → 1 ≤ c.class
+        → IsRunOf c run ss B
     run-held (inl all) some = run-of_all all.0 all.1 some
     run-held (inr h) some = stopped h.earlier h.last h.all h.held h.few h.is_step h.none_kept

@@ -82,7 +82,8 @@ module _ (C : CoverOf) (bs : List BasisRow) (over : IsBasisOver C bs) (big : 1 <
       let x = first.powers j l in
       let y = extends.powers j (omega arith) in
       let side : power_side B.presentation j ≡ (power_side N.presentation j ++ x.0) ++ y.0 = y.1 ∙ ap (λ (z : List ℕ). z ++ y.0) x.1 in
-      let words : power_word B.presentation j ≡ power_word N.presentation j ++ word_from (suc j + length (power_side N.presentation j)) (x.0 ++ y.0) =
+      let words : power_word B.presentation j
+      ≡ power_word N.presentation j ++ word_from (suc j + length (power_side N.presentation j)) (x.0 ++ y.0) =
       ap (word_from (suc j)) (side ∙ append_assoc (power_side N.presentation j) x.0 y.0)
       ∙ word_from-append (suc j) (power_side N.presentation j) (x.0 ++ y.0) in
       front-empty n m (power_word N.presentation j) (word_from (suc j + length (power_side N.presentation j)) (x.0 ++ y.0))

@@ -90,7 +90,8 @@ module _ (M : LPresentation) (p c : ℕ) (B : Answer) (largest : IsLargest M p c
 
   factored : f ≡ map (value (normal_table A.presentation) through.through) (image_words B)
   factored =
-      let long : length (map (value T e) (image_words B)) ≡ length B.images = length-map (image_words B) (value T e) ∙ length-map B.images _ in
+      let long : length (map (value T e) (image_words B)) ≡ length B.images =
+      length-map (image_words B) (value T e) ∙ length-map B.images _ in
       let images : length B.images ≡ length M.names = largest.answer.image_count ∙ ap (λ (ns : List (List ℕ)). length ns) largest.names in
       let many = obeys.count in
       ext_get_or 0 f (map (value T e) (image_words B)) (omega arith)
@@ -124,7 +125,8 @@ module _ (M : LPresentation) (p c : ℕ) (B : Answer) (largest : IsLargest M p c
 
   -- so the relations are satisfied
   pub relators-satisfied : (r : List ℤ) → IsRelatorOf B.presentation r → Joined A.presentation (sub r (spelled_under B F)) []
-  relators-satisfied r h = (table.joined (sub r (spelled_under B F)) [] (letters-under r) tt).1 (value-spelled r ∙ through.factors.relators r h)
+  relators-satisfied r h =
+      (table.joined (sub r (spelled_under B F)) [] (letters-under r) tt).1 (value-spelled r ∙ through.factors.relators r h)
 
   -- and the images are the words
   pub images-made : (i : ℕ) → i < length B.images

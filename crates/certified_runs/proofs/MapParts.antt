@@ -80,7 +80,8 @@ endo-shape n [] i l are = absurd (omega arith)
 endo-shape n (f ∷ endos) zero l are = (are.0, are.1)
 endo-shape n (f ∷ endos) (suc i) l are = endo-shape n endos i (omega arith) are.2
 
-module _ (L : LPresentation) (words : IsLPresentation L) (none : length L.fixed ≡ 0) (p c : ℕ) (A : Answer) (largest : IsLargest L p c A) where
+module _ (L : LPresentation) (words : IsLPresentation L) (none : length L.fixed ≡ 0) (p c : ℕ) (A : Answer)
+    (largest : IsLargest L p c A) where
   is : IsAnswer A
   is = largest.answer
 
@@ -105,12 +106,15 @@ module _ (L : LPresentation) (words : IsLPresentation L) (none : length L.fixed 
     ws = map (λ (u : List ℤ). sub u (image_words A)) (get_or L.endos i [])
 
     found : (g : List State) × HaveElements A is consistent ws g
-    found = elements-of A is consistent ws (AreWords-map_sub A.presentation.rank (image_words A) endo (AreWords-image_words A is consistent))
+    found =
+        elements-of A is consistent ws
+        (AreWords-map_sub A.presentation.rank (image_words A) endo (AreWords-image_words A is consistent))
 
     count : length found.0 ≡ length (get_or L.endos i [])
     count = found.1.count ∙ length-map endo (λ (u : List ℤ). sub u (image_words A))
 
-    known : (k : ℕ) → k < length (get_or L.endos i []) → Joined A.presentation (sub (get_or endo k []) (image_words A)) (W (get_or found.0 k (identity_of A)))
+    known : (k : ℕ) → k < length (get_or L.endos i []) → Joined A.presentation (sub (get_or endo k []) (image_words A))
+        (W (get_or found.0 k (identity_of A)))
     known k l =
         let long = length-map endo (λ (u : List ℤ). sub u (image_words A)) in
         joined-trans (joined-from_equal A.presentation (sym (get_or-map (λ (u : List ℤ). sub u (image_words A)) endo k [])))
@@ -152,7 +156,8 @@ module _ (L : LPresentation) (words : IsLPresentation L) (none : length L.fixed 
       values = found.0;
       under = under;
       made =
-          largest-makes_map L p c A largest A is consistent largest.class largest.prime found.0 (elements-are A is consistent ws found.0 found.1)
+          largest-makes_map L p c A largest A is consistent largest.class largest.prime found.0
+          (elements-are A is consistent ws found.0 found.1)
           (count ∙ shape.0 ∙ sym countA) obeyed;
     }
 

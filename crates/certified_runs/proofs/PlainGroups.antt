@@ -86,7 +86,8 @@ module _ (A : Answer) (is : IsAnswer A) where
   product-word u v h m = unflat (arithmetic-here.products u v h m)
 
   pub product-element : (u v : State) → IsState (without_rows A.presentation) A.presentation.rank u
-      → IsState (without_rows A.presentation) A.presentation.rank v → IsState (without_rows A.presentation) A.presentation.rank (plain_product A u v)
+      → IsState (without_rows A.presentation) A.presentation.rank v
+      → IsState (without_rows A.presentation) A.presentation.rank (plain_product A u v)
   product-element u v h m = arithmetic-here.product_states u v h m
 
   -- the inverses of elements
@@ -144,12 +145,14 @@ module _ (A : Answer) (is : IsAnswer A) where
     -- a value is known by its word
     pub value-known : (f : List State) → AreElements A.presentation f → (w : List ℤ) → HasLetters (length f) w → (v : State)
         → IsState (without_rows A.presentation) A.presentation.rank v
-        → Joined A.presentation (word_of (without_rows A.presentation) v) (sub w (map (word_of (without_rows A.presentation)) f)) → IsValue A f w v
+        → Joined A.presentation (word_of (without_rows A.presentation) v) (sub w (map (word_of (without_rows A.presentation)) f))
+        → IsValue A f w v
     value-known f are w l v h c =
         let g : List State = inverse_list f are in
         let images = images-inverted f are in
         let x : State = evaluate_from Y (plain_push Y) f (inverse_list f are) (identity_of A) w in
-        let state : IsState Y P.rank x = value-state Y rowed-here two (plain_push Y) meaning-here f g (identity_of A) w images one-state l in
+        let state : IsState Y P.rank x =
+        value-state Y rowed-here two (plain_push Y) meaning-here f g (identity_of A) w images one-state l in
         let joined : Joined P (word_of Y x) (word_of Y (identity_of A) ++ sub w (map (word_of Y) f)) =
         unflat (arithmetic-here.values f g (identity_of A) w images one-state l) in
         record {

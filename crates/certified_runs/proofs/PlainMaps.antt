@@ -112,7 +112,8 @@ module _ (A : Answer) (is : IsAnswer A) (consistent : IsConsistent A.presentatio
     at : (k : ℕ) → k < B.presentation.rank → IsElementOf A is consistent (sub (spell B k) F) (get_or g k (identity_of A))
     at k l =
         let c = length-G in
-        subst (λ (w : List ℤ). IsElementOf A is consistent w (get_or g k (identity_of A))) (spelled_under-at B F k) (found.1.each k (omega arith))
+        subst (λ (w : List ℤ). IsElementOf A is consistent w (get_or g k (identity_of A))) (spelled_under-at B F k)
+        (found.1.each k (omega arith))
 
     -- words under the elements
     same-under : (w : List ℤ) → HasLetters B.presentation.rank w → Joined A.presentation (sub w G) (sub w (map W g))
@@ -141,7 +142,8 @@ module _ (A : Answer) (is : IsAnswer A) (consistent : IsConsistent A.presentatio
         let state : IsState (without_rows A.presentation) A.presentation.rank x = element-get_or P f (identity_of A) are i within in
         ap (λ (j : ℕ). get_or f j (identity_of A)) place
         ∙ same-elements A is consistent x (get_or g k (identity_of A)) state (at k l).state
-        (joined-trans (joined-from_equal P (sym (ap (λ (w : List ℤ). sub w F) e ∙ append-nil (get_or F i []) ∙ word-at f i within))) (at k l).joined)
+        (joined-trans
+        (joined-from_equal P (sym (ap (λ (w : List ℤ). sub w F) e ∙ append-nil (get_or F i []) ∙ word-at f i within))) (at k l).joined)
     defined-as k l (commutator zero i) h e = absurd h
     defined-as k l (commutator (suc j) zero) h e = absurd h
     defined-as k l (commutator (suc j) (suc i)) h e =
@@ -155,7 +157,8 @@ module _ (A : Answer) (is : IsAnswer A) (consistent : IsConsistent A.presentatio
         let u : State = get_or g j (identity_of A) in
         let v : State = get_or g i (identity_of A) in
         let s : State = get_or g k (identity_of A) in
-        let vu : IsState (without_rows A.presentation) A.presentation.rank (plain_product A v u) = product-element A is v u b.state a.state in
+        let vu : IsState (without_rows A.presentation) A.presentation.rank (plain_product A v u) =
+        product-element A is v u b.state a.state in
         let spelt : Joined A.presentation (W s) (comm (W u) (W v)) =
         joined-trans (joined-sym z.joined)
         (joined-trans (joined-from_equal P (ap (λ (w : List ℤ). sub w F) e ∙ sub-comm (spell B j) (spell B i) F))
@@ -199,7 +202,8 @@ module _ (A : Answer) (is : IsAnswer A) (consistent : IsConsistent A.presentatio
     }
 
     -- a relation
-    one-value : (u w : List ℤ) → HasLetters B.presentation.rank u → HasLetters B.presentation.rank w → IsRelatorOf B.presentation (u ++ inv w)
+    one-value : (u w : List ℤ) → HasLetters B.presentation.rank u → HasLetters B.presentation.rank w
+        → IsRelatorOf B.presentation (u ++ inv w)
         → HaveOneValue A g u w
     one-value u w l k r =
         let c = count in

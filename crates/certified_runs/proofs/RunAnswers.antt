@@ -93,7 +93,9 @@ module _ (tested : Answer → Overlap → Type 0) (c : Certificate) (run : Run) 
       let end : suc last ≡ length ss = omega arith in
       let whole : a (suc last) ≡ B = ap a end ∙ is.answer in
       ⊎_elim
-      (λ none. subst (Extends (a last).presentation.rank (a last)) (sym (stays last (omega arith) none) ∙ whole) (extends-self (a last).presentation.rank (a last)))
+      (λ none.
+      subst (Extends (a last).presentation.rank (a last)) (sym (stays last (omega arith) none) ∙ whole)
+      (extends-self (a last).presentation.rank (a last)))
       (λ kept.
       subst (Extends (a last).presentation.rank (a last)) (sym (next-is last (omega arith) kept) ∙ whole)
       (extends-next (C last) (s last).rows (shaped last (omega arith))))
@@ -106,7 +108,8 @@ module _ (tested : Answer → Overlap → Type 0) (c : Certificate) (run : Run) 
       let next : a (suc k) ≡ eliminated (C k) (s k).rows = next-is k (omega arith) (is.kept k (omega arith)) in
       let step : Extends (a k).presentation.rank (a k) (a (suc k)) =
       subst (Extends (a k).presentation.rank (a k)) (sym next) (extends-next (C k) (s k).rows (shaped k (omega arith))) in
-      extends-trans (a k).presentation.rank (a (suc k)).presentation.rank (a k) (a (suc k)) B step.rank step (extends-left m (suc k) (omega arith))
+      extends-trans (a k).presentation.rank (a (suc k)).presentation.rank (a k) (a (suc k)) B step.rank step
+      (extends-left m (suc k) (omega arith))
 
   pub extends-last : (k : ℕ) → k ≤ last → Extends (a k).presentation.rank (a k) B
   extends-last k l = let m : ℕ = last - k in extends-left m k (omega arith)
@@ -172,7 +175,8 @@ module _ (tested : Answer → Overlap → Type 0) (c : Certificate) (run : Run) 
   give-at : (k : ℕ) → k < length ss → B.presentation.rank ≤ max_rank → GiveAnswer full_kind (C k) (held_lines (s k))
   give-at k l small =
       let held = is.held k l in
-      let same : kept_in (C k) (held_lines (s k)) ≡ kept_by (C k) (s k) = (held_lines_make_what_the_basis_makes (C k) (s k) (is.told k l) held.prime held.width).kept in
+      let same : kept_in (C k) (held_lines (s k)) ≡ kept_by (C k) (s k) =
+      (held_lines_make_what_the_basis_makes (C k) (s k) (is.told k l) held.prime held.width).kept in
       let here : IsGood k = good k (omega arith) in
       ⊎_elim
       (λ none.

@@ -39,7 +39,8 @@ module _ (tested : Answer → Overlap → Type 0) (c : Certificate) (run : Run) 
   kept-is k first last =
       let held = held-is k first last in
       ap (kept_in (cover_at full_cover_of c run k)) (step-is k first last)
-      ∙ (held_lines_make_what_the_basis_makes (cover_at full_cover_of c run k) (held_at k) (is.told (k - 1) (omega arith)) held.prime held.width).kept
+      ∙ (held_lines_make_what_the_basis_makes (cover_at full_cover_of c run k) (held_at k)
+      (is.told (k - 1) (omega arith)) held.prime held.width).kept
 
   -- Extra
   pub not-extra : (k : ℕ) → 1 ≤ k → k ≤ length ss → IsNotExtra full_cover_of c run k

@@ -2,6 +2,9 @@
 -- basis, and the tails without one are those without a pivot.
 use Rattle.std.proofs.Common.{◌≡◌, ◌+◌, ◌-◌, ◌<◌, ◌≤◌, ℕ, zero, suc, Bool, true, false, not, cond, eqb, ◌||◌, List, [], ◌∷◌, length, map, filter, refl, ap, ap₂, sym, ◌∙◌, subst, arith, eq-eqb, ne_eqb, inl, inr}
 use Rattle.std.proofs.lemmas.Bool.{cases_eq, cond_both, false_from_ne_true}
+use Rattle.std.specs.List.{All}
+use Rattle.pq_base.specs.Limits.{max_rank}
+use Rattle.pq_base.specs.Answer.{class_of}
 use Rattle.pq_base.specs.Canonical.{numbers_from}
 use Rattle.fp_rows.specs.Row.{at_column}
 use Rattle.fp_rows.specs.Rows.{IsRow}
@@ -17,7 +20,8 @@ use Rattle.pc_presentation.specs.Pcp.{unit_row}
 use Rattle.p_cover.specs.Covers.{CoverOf}
 use Rattle.cover_quotient.specs.Combinations.{TailCombinations}
 use Rattle.cover_quotient.specs.Kept.{is_listed, kept_columns, entries_at, kept_combinations}
-use Rattle.cover_quotient.specs.NextAnswer.{combined_answer}
+use Rattle.cover_quotient.specs.NextAnswer.{combined_answer, sources_at}
+use Rattle.cover_quotient.specs.Defining.{MayBeKept, KeptMayBeKept}
 use Rattle.cover_quotient.proofs.carried_rows.UnitRows.{IsRow-unit_row, at_column-unit_row_other}
 use Rattle.cover_quotient.proofs.kept_tails.KeptColumns.{listed_pivot, pivot_listed}
 use Rattle.cover_quotient.proofs.kept_tails.KeptUnits.{pivot-first}
@@ -25,6 +29,8 @@ use Rattle.derivation_log.specs.Certificates.{TailLine}
 use Rattle.derivation_log.specs.CertificateRuns.{row_of_pairs, tail_row, kept_in, combinations_in, next_where}
 use Rattle.derivation_log.specs.HeldSteps.{HeldStep}
 use Rattle.derivation_log.specs.HeldLines.{pairs_of, kept_coefficient, tail_line, tail_lines, pivot_columns, held_lines, IsTold}
+use Rattle.derivation_log.specs.HeldRuns.{kept_by}
+use Rattle.derivation_log.specs.CertificateParts.{full_kind, GiveAnswer}
 use Rattle.derivation_log.specs.HeldLineLaws.{HeldLinesMakeWhatTheBasisMakes}
 use Rattle.derivation_log.proofs.PairForms.{at_least_next}
 use Rattle.derivation_log.proofs.PairRows.{AllBelow-from_entries, get_or-row_of_pairs, length-row_of_pairs}
@@ -212,4 +218,13 @@ held_lines_make_what_the_basis_makes C s told prime width = record {
   kept = kept-same C s told prime width;
   next = ap₂ (λ (ts : List ℕ) (K : TailCombinations). next_where ts C.answer (combined_answer C K)) (kept-same C s told prime width)
       (combinations-same C s told prime width);
+}
+
+-- where the tails that the basis keeps may be kept, and give a rank within the limit, the lines give an answer
+pub held_lines-give_answer : (C : CoverOf) (s : HeldStep) → IsTold s → s.prime ≡ C.answer.presentation.prime → s.width ≡ length C.sources
+    → KeptMayBeKept C s.rows → C.answer.presentation.rank + length (kept_by C s) ≤ max_rank → GiveAnswer full_kind C (held_lines s)
+held_lines-give_answer C s told prime width may limit = record {
+  limit = subst (λ (ts : List ℕ). C.answer.presentation.rank + length ts ≤ max_rank) (sym (kept-same C s told prime width)) limit;
+  may_keep = subst (λ (ts : List ℕ). All (MayBeKept C.answer (class_of C.answer)) (sources_at ts C.sources))
+      (sym (kept-same C s told prime width)) may;
 }

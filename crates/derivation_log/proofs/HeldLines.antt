@@ -1,11 +1,12 @@
 -- Where the lines of a step are put behind those of the steps before it, the lists of steps that have these lines have that step, or
 -- another with the same lines, at their end.
-use Rattle.std.proofs.Common.{◌≡◌, List, [], ◌∷◌, ◌++◌, get_or, drop, map, refl, ap, ap₂, sym, ◌∙◌, subst}
+use Rattle.std.proofs.Common.{◌≡◌, List, [], ◌∷◌, ◌++◌, ap, sym, ◌∙◌, subst}
 use Rattle.std.proofs.lemmas.List.{map-append}
 use Rattle.fp_echelon.specs.Basis.{Echelon, IsBasis}
 use Rattle.derivation_log.specs.declared.source.RowSource.{RowSource}
 use Rattle.derivation_log.specs.HeldSteps.{HeldStep, told_step, held_basis, KeepsOneMore}
 use Rattle.derivation_log.specs.Certificates.{StepLines}
+use Rattle.derivation_log.proofs.HeldRuns.{last-step}
 use Rattle.derivation_log.specs.HeldLines.{held_lines, IsTold, AreTold, AreLinesOf}
 
 -- the basis, whatever room it has
@@ -18,21 +19,6 @@ held-basis B sources is = record {
   sums = is.sums;
   spanned = is.spanned;
 }
-
--- the last step of those with some values
-pub last-step : {X : Type 0} (f : HeldStep → X) (xs : List X) (x : X) (steps : List HeldStep) → xs ++ x ∷ [] ≡ map f steps
-    → (earlier : List HeldStep) × (last : HeldStep) × (xs ≡ map f earlier) × (steps ≡ earlier ++ last ∷ [])
-last-step f [] x [] e = cc
-last-step f [] x (s ∷ []) e = ([], s, refl, refl)
-last-step f [] x (s ∷ t ∷ steps) e = cc
-last-step f (y ∷ xs) x [] e = cc
-last-step {X} f (y ∷ xs) x (s ∷ steps) e =
-    let rest = last-step f xs x steps (ap (drop 1) e) in (
-      s ∷ rest.0,
-      rest.1,
-      ap₂ (λ (z : X) (zs : List X). z ∷ zs) (ap (λ (zs : List X). get_or zs 0 y) e) rest.2,
-      ap (λ (ts : List HeldStep). s ∷ ts) rest.3,
-    )
 
 AreTold-push : (steps : List HeldStep) (s : HeldStep) → AreTold steps → IsTold s → AreTold (steps ++ s ∷ [])
 AreTold-push [] s all one = (one, tt)

@@ -7,8 +7,14 @@ pub mod PairRows
 pub mod HeldForms
 pub mod HeldSums
 pub mod HeldCombinations
+pub mod BuiltRuns
+pub mod PassedRuns
 pub mod HeldCertificates
 pub mod HeldLines
 pub mod FirstParts
+pub mod ValidParts
+pub mod JudgedOverlaps
+pub mod PlainValues
+pub mod PlainMaps
 mod CertificateVectors
 mod ValidVectors

@@ -1,5 +1,4 @@
--- Parts that hold of a consistent answer: all overlaps agree by the plain rule, and its images carry the words that it kills to the
--- identity.
+-- The images of a consistent answer carry the words that it kills to the identity.
 use Rattle.std.proofs.Common.{◌≡◌, ℕ, ℤ, List, [], length, get_or, ap, sym, ◌∙◌, subst}
 use Rattle.std.proofs.lemmas.List.{length-map}
 use Rattle.std.proofs.lemmas.List.Elements.{All-from_get_or}
@@ -11,22 +10,9 @@ use Rattle.pq_base.specs.Answer.{Answer, IsAnswer, image_words}
 use Rattle.pq_base.specs.Largest.{Kills}
 use Rattle.pq_base.proofs.words.JoinedLaws.{joined-sym, joined-trans, joined-from_equal}
 use Rattle.pq_base.proofs.words.LetterLaws.{HasLetters-get_or}
-use Rattle.pc_presentation.specs.Rowed.{without_rows}
-use Rattle.pc_presentation.specs.Collection.{plain_push}
-use Rattle.pc_presentation.specs.OverlapNumbers.{overlap_of}
-use Rattle.pc_presentation.proofs.rows.FlatLaws.{flat-without_rows}
-use Rattle.pc_presentation.proofs.consistent.ConsistentOverlaps.{consistent_overlaps_agree}
-use Rattle.pc_presentation.proofs.consistent.OverlapNumberLaws.{overlap_of-is}
 use Rattle.derivation_log.specs.PlainValues.{bare_state, images_of, identity_of, IsCarriedToIdentity}
-use Rattle.derivation_log.specs.CertificateParts.{full_kind, OverlapsAgree, AreCarriedToIdentity}
-use Rattle.certified_runs.proofs.PlainGroups.{rowed-here, meaning-here, one-state, one-word, value-known, words-of_images, elements-of_images}
-
--- Overlap
-pub consistent-overlaps : (A : Answer) → IsAnswer A → IsConsistent A.presentation → OverlapsAgree full_kind A
-consistent-overlaps A is consistent o numbers any =
-    consistent_overlaps_agree (without_rows A.presentation) (rowed-here A is)
-    (subst IsConsistent (sym (flat-without_rows A.presentation)) consistent)
-    (plain_push (without_rows A.presentation)) (meaning-here A is) (overlap_of o) (overlap_of-is A.presentation.rank o numbers)
+use Rattle.derivation_log.specs.CertificateParts.{AreCarriedToIdentity}
+use Rattle.certified_runs.proofs.PlainGroups.{one-state, one-word, value-known, words-of_images, elements-of_images}
 
 module _ (A : Answer) (is : IsAnswer A) (consistent : IsConsistent A.presentation) where
   pub dead-carried : (w : List ℤ) → HasLetters (length A.names) w → Joined A.presentation (sub w (image_words A)) []

@@ -16,7 +16,9 @@ use Rattle.cover_quotient.proofs.stages.LargestOrders.{largest_quotients_have_th
 use Rattle.derivation_log.specs.HeldSteps.{HeldStep}
 use Rattle.derivation_log.specs.HeldRuns.{IsHeldStep, AreHeldSteps, IsHeldRun}
 use Rattle.derivation_log.specs.CertificateParts.{full_kind}
-use Rattle.certified_runs.proofs.StepParts.{any-tested}
+use Rattle.derivation_log.specs.declared.source.RowSource.{RowSource}
+use Rattle.derivation_log.specs.declared.source.RowSource.TheVariants.{Test, Fixed, Iterated}
+use Rattle.derivation_log.specs.HeldRuns.{IsTestedSource}
 use Rattle.pq_base.specs.Prime.{IsOffered}
 use Rattle.pq_base.proofs.PrimeLaws.{offered-two}
 use Rattle.pc_presentation.specs.Collection.{plain_push}
@@ -25,6 +27,11 @@ use Rattle.derivation_log.specs.declared.source.Run.{Run}
 use Rattle.derivation_log.specs.HeldLines.{AreLinesOf}
 use Rattle.derivation_log.specs.Certificates.{Certificate, steps_of, presentation_of}
 use Rattle.certified_runs.specs.RunLaws.{IsRunToLargest}
+
+any-tested : (s : RowSource) → IsTestedSource (λ (o : Overlap). Unit {0}) s
+any-tested (Test o) = tt
+any-tested (Fixed i) = tt
+any-tested (Iterated i s) = tt
 
 module _ (L : LPresentation) (meaning : RowedPresentation → State → ℕ → State) (cover : Answer → CoverOf)
     (tested : Answer → Overlap → Type 0) where

@@ -1,6 +1,3 @@
-pub mod StepParts
-pub mod HeldAnswers
-pub mod RunParts
 pub mod PlainGroups
 pub mod AnswerParts
 pub mod Extensions

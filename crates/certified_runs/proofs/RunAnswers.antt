@@ -1,7 +1,8 @@
 -- What a run builds are answers, and each step keeps tails that may be kept, within the limit on ranks: where the last answer is one.
-use Rattle.std.proofs.Common.{◌≡◌, ◌≢◌, ◌⊎◌, ℕ, zero, suc, ◌+◌, ◌-◌, ◌<◌, ◌≤◌, List, [], ◌∷◌, length, get_or, refl, ap, sym, ◌∙◌, subst, arith, inl, inr, ⊎_elim}
+use Rattle.std.proofs.Common.{◌≡◌, ◌≢◌, ◌⊎◌, ℕ, zero, suc, ◌+◌, ◌-◌, ◌<◌, ◌≤◌, List, [], ◌∷◌, ◌++◌, length, get_or, refl, ap, sym, ◌∙◌, subst, arith, inl, inr, ⊎_elim, length-append}
 use Rattle.std.specs.List.{All}
-use Rattle.std.proofs.lemmas.Bool.{cases_eq}
+use Rattle.std.proofs.lemmas.Bool.{cases_lt}
+use Rattle.std.proofs.lemmas.List.{append-nil, length-map, get_or-append-add}
 use Rattle.std.proofs.lemmas.List.Elements.{All-nil}
 use Rattle.pq_base.specs.Limits.{max_rank}
 use Rattle.pq_base.specs.LPresentation.{LPresentation, AreDistinct}
@@ -22,56 +23,82 @@ use Rattle.cover_quotient.proofs.next_answers.AnswerLaws.{next_answers_are_answe
 use Rattle.cover_quotient.proofs.stages.FirstStages.{trivial_answers_are_stages}
 use Rattle.derivation_log.specs.declared.source.Run.{Run}
 use Rattle.derivation_log.specs.HeldSteps.{HeldStep}
-use Rattle.derivation_log.specs.HeldRuns.{kept_by}
-use Rattle.derivation_log.specs.HeldLines.{held_lines}
-use Rattle.derivation_log.specs.Certificates.{Certificate, step_of}
-use Rattle.derivation_log.specs.CertificateRuns.{kept_in, next_by, answer_after, cover_at}
+use Rattle.derivation_log.specs.HeldRuns.{IsHeldStep, kept_by, AreHeldSteps, AreStoppedSteps}
+use Rattle.derivation_log.specs.HeldLines.{held_lines, IsTold, AreLinesOf}
+use Rattle.derivation_log.specs.Certificates.{StepLines, Certificate, steps_of, step_of}
+use Rattle.derivation_log.specs.CertificateRuns.{kept_in, cover_at}
 use Rattle.derivation_log.specs.CertificateParts.{full_kind, GiveAnswer}
 use Rattle.derivation_log.proofs.HeldCombinations.{held_lines_make_what_the_basis_makes}
-use Rattle.certified_runs.proofs.HeldAnswers.{no_step, IsRunOf, next-held, next-stopped}
-use Rattle.certified_runs.proofs.RunParts.{step-is}
+use Rattle.derivation_log.proofs.BuiltRuns.{answer_of, IsKeptStep, held-at, told-at, line-at, step-is, step-told, cover-is}
 use Rattle.certified_runs.proofs.Extensions.{IsShaped, Extends, answer-shaped, extends-self, extends-trans, shaped-next, extends-next}
 use Rattle.certified_runs.proofs.KeptSources.{kept-may_be_kept, kept-few}
-
-empty_or_not : (ks : List ℕ) → (ks ≡ []) ⊎ (ks ≢ [])
-empty_or_not [] = inl refl
-empty_or_not (k ∷ ks) = inr (λ e. cc)
 
 some-length : (ks : List ℕ) → ks ≢ [] → 1 ≤ length ks
 some-length [] some = absurd (some refl)
 some-length (k ∷ ks) some = omega arith
 
-module _ (tested : Answer → Overlap → Type 0) (c : Certificate) (run : Run) (L : LPresentation) (ss : List HeldStep) (B : Answer)
-    (is : IsRunOf L plain_push full_cover_of tested c run ss B) (offered : IsOffered c.prime) (answer : IsAnswer B)
-    (names : B.names ≡ c.presentation.names) where
+-- the one source of what an answer is covered by
+abbrev own : (A : Answer) → (full_cover_of A).answer ≡ A
+own A = refl
+
+-- a step that keeps no tail gives its answer again
+stopped-gives : (L : LPresentation) (A : Answer) (test : Overlap → Type 0) (s : HeldStep) → IsTold s
+    → IsHeldStep L plain_push (full_cover_of A) test s → kept_by (full_cover_of A) s ≡ [] → A.presentation.rank ≤ max_rank
+    → GiveAnswer full_kind (full_cover_of A) (held_lines s)
+stopped-gives L A test s told held none small =
+    let same : kept_in (full_cover_of A) (held_lines s) ≡ [] =
+    (held_lines_make_what_the_basis_makes (full_cover_of A) s told held.prime held.width).kept ∙ none in
+    let nothing : length (kept_in (full_cover_of A) (held_lines s)) ≡ 0 = ap (λ (ks : List ℕ). length ks) same in
+    record {
+      limit = omega arith;
+      may_keep =
+          subst (All (MayBeKept A (class_of A))) (sym (ap (λ (ks : List ℕ). sources_at ks (all_sources A)) same))
+          (All-nil (MayBeKept A (class_of A)));
+    }
+
+module _ (tested : Answer → Overlap → Type 0) (L : LPresentation) (c : Certificate) (run : Run) (kept more : List HeldStep) (B : Answer)
+    (lines : AreLinesOf (steps_of c run) (kept ++ more))
+    (held : AreHeldSteps L plain_push full_cover_of tested (trivial_answer c.prime c.presentation.names) kept B)
+    (offered : IsOffered c.prime) (answer : IsAnswer B) (names : B.names ≡ c.presentation.names) where
+  abbrev start : Answer
+  start = trivial_answer c.prime c.presentation.names
+
+  abbrev none : HeldStep
+  none = record { sources = []; prime = 0; width = 0; added = []; rows = [] }
+
+  -- the answer after some steps, and the step from it
   abbrev a : ℕ → Answer
-  a k = answer_after full_cover_of c run k
+  a k = answer_of L plain_push full_cover_of tested own (trivial_answer c.prime c.presentation.names) kept k
 
   abbrev s : ℕ → HeldStep
-  s k = get_or ss k no_step
+  s k = get_or kept k (record { sources = []; prime = 0; width = 0; added = []; rows = [] })
 
   abbrev C : ℕ → CoverOf
-  C k = full_cover_of (answer_after full_cover_of c run k)
+  C k = full_cover_of (a k)
 
-  abbrev last : ℕ
-  last = length ss - 1
+  step-at : (k : ℕ) → k < length kept → IsKeptStep L plain_push full_cover_of tested own (a k) (s k)
+  step-at k l = held-at L plain_push full_cover_of tested own kept start B k none held l
 
-  line-at : (k : ℕ) → k < length ss → step_of c run (suc k) ≡ held_lines (s k)
-  line-at k l =
-      let place : suc k - 1 ≡ k = omega arith in
-      step-is tested c run L ss B is (suc k) (omega arith) (omega arith) ∙ ap (λ (i : ℕ). held_lines (s i)) place
+  some-kept : (k : ℕ) → k < length kept → 1 ≤ length (kept_by (C k) (s k))
+  some-kept k l = some-length (kept_by (C k) (s k)) (step-at k l).kept
 
-  -- a step that keeps a tail
-  next-is : (k : ℕ) → k < length ss → kept_by (C k) (s k) ≢ [] → a (suc k) ≡ eliminated (C k) (s k).rows
-  next-is k l some =
-      ap (next_by (C k)) (line-at k l)
-      ∙ next-held L plain_push full_cover_of tested (C k) (tested (a k)) (s k) (is.told k l) (is.held k l) some
+  answer-next : (ss : List HeldStep) (A : Answer) (k : ℕ) → k < length ss
+      → answer_of L plain_push full_cover_of tested own A ss (suc k)
+      ≡ eliminated (full_cover_of (answer_of L plain_push full_cover_of tested own A ss k)) (get_or ss k none).rows
+  answer-next [] A k l = absurd (omega arith)
+  answer-next (t ∷ ss) A zero l = refl
+  answer-next (t ∷ ss) A (suc k) l = answer-next ss (eliminated (full_cover_of A) t.rows) k (omega arith)
 
-  -- and one that keeps none
-  stays : (k : ℕ) → k < length ss → kept_by (C k) (s k) ≡ [] → a (suc k) ≡ a k
-  stays k l none =
-      ap (next_by (C k)) (line-at k l)
-      ∙ next-stopped L plain_push full_cover_of tested (C k) (tested (a k)) (s k) (is.told k l) (is.held k l) none
+  next-is : (k : ℕ) → k < length kept → a (suc k) ≡ eliminated (C k) (s k).rows
+  next-is k l = answer-next kept start k l
+
+  answer-last : (ss : List HeldStep) (A : Answer) → AreHeldSteps L plain_push full_cover_of tested A ss B
+      → answer_of L plain_push full_cover_of tested own A ss (length ss) ≡ B
+  answer-last [] A all = all
+  answer-last (t ∷ ss) A all = answer-last ss (eliminated (full_cover_of A) t.rows) all.2
+
+  last-is : a (length kept) ≡ B
+  last-is = answer-last kept start held
 
   first-answer : IsAnswer (trivial_answer c.prime c.presentation.names)
   first-answer =
@@ -81,126 +108,138 @@ module _ (tested : Answer → Overlap → Type 0) (c : Certificate) (run : Run) 
       (trivial_answers_are_stages c.presentation c.prime offered (omega arith) (omega arith)
       (subst (λ (ns : List (List ℕ)). AreDistinct ns) names answer.distinct)).answer
 
-  shaped : (k : ℕ) → k ≤ last → IsShaped (a k)
-  shaped zero l = answer-shaped (trivial_answer c.prime c.presentation.names) first-answer
-  shaped (suc k) l =
-      subst IsShaped (sym (next-is k (omega arith) (is.kept k (omega arith)))) (shaped-next (C k) (s k).rows (shaped k (omega arith)))
+  shaped : (k : ℕ) → k ≤ length kept → IsShaped (a k)
+  shaped zero l = answer-shaped start first-answer
+  shaped (suc k) l = subst IsShaped (sym (next-is k (omega arith))) (shaped-next (C k) (s k).rows (shaped k (omega arith)))
 
-  -- the last answer
-  last-extends : Extends (a last).presentation.rank (a last) B
-  last-extends =
-      let some = is.some in
-      let end : suc last ≡ length ss = omega arith in
-      let whole : a (suc last) ≡ B = ap a end ∙ is.answer in
-      ⊎_elim
-      (λ none.
-      subst (Extends (a last).presentation.rank (a last)) (sym (stays last (omega arith) none) ∙ whole)
-      (extends-self (a last).presentation.rank (a last)))
-      (λ kept.
-      subst (Extends (a last).presentation.rank (a last)) (sym (next-is last (omega arith) kept) ∙ whole)
-      (extends-next (C last) (s last).rows (shaped last (omega arith))))
-      (empty_or_not (kept_by (C last) (s last)))
-
-  -- each answer before it, by how many steps are left
-  extends-left : (m k : ℕ) → k + m ≡ last → Extends (a k).presentation.rank (a k) B
-  extends-left zero k e = let same : last ≡ k = omega arith in subst (λ (i : ℕ). Extends (a i).presentation.rank (a i) B) same last-extends
+  -- the last answer extends each before it, by how many steps are left
+  extends-left : (m k : ℕ) → k + m ≡ length kept → Extends (a k).presentation.rank (a k) B
+  extends-left zero k e =
+      let same : length kept ≡ k = omega arith in
+      subst (λ (A : Answer). Extends A.presentation.rank A B) (sym (sym (ap a same) ∙ last-is)) (extends-self B.presentation.rank B)
   extends-left (suc m) k e =
-      let next : a (suc k) ≡ eliminated (C k) (s k).rows = next-is k (omega arith) (is.kept k (omega arith)) in
       let step : Extends (a k).presentation.rank (a k) (a (suc k)) =
-      subst (Extends (a k).presentation.rank (a k)) (sym next) (extends-next (C k) (s k).rows (shaped k (omega arith))) in
+      subst (Extends (a k).presentation.rank (a k)) (sym (next-is k (omega arith)))
+      (extends-next (C k) (s k).rows (shaped k (omega arith))) in
       extends-trans (a k).presentation.rank (a (suc k)).presentation.rank (a k) (a (suc k)) B step.rank step
       (extends-left m (suc k) (omega arith))
 
-  pub extends-last : (k : ℕ) → k ≤ last → Extends (a k).presentation.rank (a k) B
-  extends-last k l = let m : ℕ = last - k in extends-left m k (omega arith)
-
-  -- what a step makes that keeps a tail
-  next-extends : (k : ℕ) → k < length ss → kept_by (C k) (s k) ≢ []
+  next-extends : (k : ℕ) → k < length kept
       → Extends (eliminated (C k) (s k).rows).presentation.rank (eliminated (C k) (s k).rows) B
-  next-extends k l some =
-      let next : a (suc k) ≡ eliminated (C k) (s k).rows = next-is k l some in
-      ⊎_elim
-      (λ (e : k ≡ last).
-      let end : length ss ≡ suc k = omega arith in
-      subst (λ (M : Answer). Extends M.presentation.rank M B) (ap a end ∙ next)
-      (subst (λ (M : Answer). Extends M.presentation.rank M B) (sym is.answer) (extends-self B.presentation.rank B)))
-      (λ (ne : k ≢ last).
-      subst (λ (M : Answer). Extends M.presentation.rank M B) next (extends-last (suc k) (omega arith)))
-      (cases_eq k last)
+  next-extends k l =
+      let m : ℕ = length kept - suc k in
+      subst (λ (A : Answer). Extends A.presentation.rank A B) (next-is k l) (extends-left m (suc k) (omega arith))
 
   -- the answer after some steps is one, of the prime
-  pub record IsGood (k : ℕ) : Type 0 where
-    pub answered : IsAnswer (answer_after full_cover_of c run k)
-    pub prime : (answer_after full_cover_of c run k).presentation.prime ≡ c.prime
+  record IsGood (k : ℕ) : Type 0 where
+    pub answered : IsAnswer (a k)
+    pub prime : (a k).presentation.prime ≡ c.prime
 
-  basis-over : (k : ℕ) → k < length ss → IsGood k → IsBasisOver (C k) (s k).rows
+  basis-over : (k : ℕ) → k < length kept → IsGood k → IsBasisOver (C k) (s k).rows
   basis-over k l good =
-      let held = is.held k l in
+      let step = (step-at k l).is in
       record {
         cover = record { answer = good.answered; sources = part_of_itself (all_sources (a k)) };
         prime = subst IsOffered (sym good.prime) offered;
         reduced =
-            subst (λ (q : ℕ). IsReduced q (length (all_sources (a k))) (s k).rows) held.prime
-            (subst (λ (n : ℕ). IsReduced (s k).prime n (s k).rows) held.width held.basis.reduced);
+            subst (λ (q : ℕ). IsReduced q (length (all_sources (a k))) (s k).rows) step.prime
+            (subst (λ (n : ℕ). IsReduced (s k).prime n (s k).rows) step.width step.basis.reduced);
       }
 
   big-at : (k : ℕ) → IsGood k → 1 < (a k).presentation.prime
   big-at k good = offered-two (a k).presentation.prime (subst IsOffered (sym good.prime) offered)
 
-  may-at : (k : ℕ) (l : k < length ss) (good : IsGood k) → kept_by (C k) (s k) ≢ []
-      → All (MayBeKept (a k) (class_of (a k))) (kept_sources (C k) (s k).rows)
-  may-at k l good some =
-      kept-may_be_kept (C k) (s k).rows (basis-over k l good) (big-at k good) B answer (next-extends k l some)
+  may-at : (k : ℕ) (l : k < length kept) (good : IsGood k) → All (MayBeKept (a k) (class_of (a k))) (kept_sources (C k) (s k).rows)
+  may-at k l good =
+      kept-may_be_kept (C k) (s k).rows (basis-over k l good) (big-at k good) B answer (next-extends k l)
       (extends-next (C k) (s k).rows (answer-shaped (a k) good.answered))
 
-  good-next : (k : ℕ) → k < length ss → IsGood k → kept_by (C k) (s k) ≢ [] → IsNextAnswer (a k) (eliminated (C k) (s k).rows)
-  good-next k l good some =
-      let long = some-length (kept_by (C k) (s k)) some in
-      next_answers_are_answers (C k) (s k).rows (basis-over k l good) (may-at k l good some)
-      (kept-few (C k) (s k).rows (basis-over k l good) (big-at k good) B answer (next-extends k l some)
-      (extends-next (C k) (s k).rows (answer-shaped (a k) good.answered)) long) long
+  good-next : (k : ℕ) → k < length kept → IsGood k → IsNextAnswer (a k) (eliminated (C k) (s k).rows)
+  good-next k l good =
+      next_answers_are_answers (C k) (s k).rows (basis-over k l good) (may-at k l good)
+      (kept-few (C k) (s k).rows (basis-over k l good) (big-at k good) B answer (next-extends k l)
+      (extends-next (C k) (s k).rows (answer-shaped (a k) good.answered)) (some-kept k l)) (some-kept k l)
 
-  pub good : (k : ℕ) → k ≤ last → IsGood k
+  good : (k : ℕ) → k ≤ length kept → IsGood k
   good zero l = record { answered = first-answer; prime = refl }
   good (suc k) l =
       let before = good k (omega arith) in
-      let some = is.kept k (omega arith) in
-      let next : a (suc k) ≡ eliminated (C k) (s k).rows = next-is k (omega arith) some in
+      let next : a (suc k) ≡ eliminated (C k) (s k).rows = next-is k (omega arith) in
       record {
-        answered = subst IsAnswer (sym next) (good-next k (omega arith) before some).answer;
-        prime = ap (λ (M : Answer). M.presentation.prime) next ∙ before.prime;
+        answered = subst IsAnswer (sym next) (good-next k (omega arith) before).answer;
+        prime = ap (λ (A : Answer). A.presentation.prime) next ∙ before.prime;
       }
 
-  -- Rank
-  give-at : (k : ℕ) → k < length ss → B.presentation.rank ≤ max_rank → GiveAnswer full_kind (C k) (held_lines (s k))
+  -- a step that keeps a tail gives an answer
+  give-at : (k : ℕ) → k < length kept → B.presentation.rank ≤ max_rank → GiveAnswer full_kind (C k) (held_lines (s k))
   give-at k l small =
-      let held = is.held k l in
+      let step = (step-at k l).is in
+      let told = step-told L plain_push full_cover_of tested own c run kept more B lines held k l in
       let same : kept_in (C k) (held_lines (s k)) ≡ kept_by (C k) (s k) =
-      (held_lines_make_what_the_basis_makes (C k) (s k) (is.told k l) held.prime held.width).kept in
-      let here : IsGood k = good k (omega arith) in
-      ⊎_elim
-      (λ none.
-      let ranks = (extends-last k (omega arith)).rank in
-      let nothing : length (kept_in (C k) (held_lines (s k))) ≡ 0 = ap (λ (ks : List ℕ). length ks) (same ∙ none) in
-      record {
-        limit = omega arith;
-        may_keep =
-            subst (All (MayBeKept (a k) (class_of (a k)))) (sym (ap (λ (ks : List ℕ). sources_at ks (all_sources (a k))) (same ∙ none)))
-            (All-nil (MayBeKept (a k) (class_of (a k))));
-      })
-      (λ some.
-      let ranks = (next-extends k l some).rank in
+      (held_lines_make_what_the_basis_makes (C k) (s k) told step.prime step.width).kept in
+      let ranks = (next-extends k l).rank in
       let count : length (kept_in (C k) (held_lines (s k))) ≡ length (kept_by (C k) (s k)) = ap (λ (ks : List ℕ). length ks) same in
       record {
         limit = omega arith;
         may_keep =
             subst (All (MayBeKept (a k) (class_of (a k)))) (sym (ap (λ (ks : List ℕ). sources_at ks (all_sources (a k))) same))
-            (may-at k l here some);
-      })
-      (empty_or_not (kept_by (C k) (s k)))
+            (may-at k l (good k (omega arith)));
+      }
 
-  pub give-answer : (k : ℕ) → 1 ≤ k → k ≤ length ss → B.presentation.rank ≤ max_rank
-      → GiveAnswer full_kind (cover_at full_cover_of c run k) (step_of c run k)
-  give-answer k first end small =
-      subst (GiveAnswer full_kind (cover_at full_cover_of c run k)) (sym (step-is tested c run L ss B is k first end))
-      (give-at (k - 1) (omega arith) small)
+  -- by the certificate's own names of the cover and the lines
+  named : (k : ℕ) (A : Answer) (t : HeldStep) → cover_at full_cover_of c run k ≡ full_cover_of A → step_of c run k ≡ held_lines t
+      → GiveAnswer full_kind (full_cover_of A) (held_lines t) → GiveAnswer full_kind (cover_at full_cover_of c run k) (step_of c run k)
+  named k A t cover line gives =
+      subst (λ (D : CoverOf). GiveAnswer full_kind D (step_of c run k)) (sym cover)
+      (subst (GiveAnswer full_kind (full_cover_of A)) (sym line) gives)
+
+  pub gives-kept : (k : ℕ) → k < length kept → B.presentation.rank ≤ max_rank
+      → GiveAnswer full_kind (cover_at full_cover_of c run (suc k)) (step_of c run (suc k))
+  gives-kept k l small =
+      named (suc k) (a k) (s k) (cover-is L plain_push full_cover_of tested own c run kept more B lines held k (omega arith))
+      (step-is L plain_push full_cover_of tested own c run kept more B lines held k l) (give-at k l small)
+
+  -- the step behind them that keeps none
+  pub gives-stopped : (t : HeldStep) (rest : List HeldStep) → more ≡ t ∷ rest → IsHeldStep L plain_push (full_cover_of B) (tested B) t
+      → kept_by (full_cover_of B) t ≡ [] → B.presentation.rank ≤ max_rank
+      → GiveAnswer full_kind (cover_at full_cover_of c run (suc (length kept))) (step_of c run (suc (length kept)))
+  gives-stopped t rest e is none_kept small =
+      let long : length (kept ++ more) ≡ length kept + length more = length-append kept more in
+      let one : length more ≡ suc (length rest) = ap (λ (ss : List HeldStep). length ss) e in
+      let inside : length kept < length (kept ++ more) = omega arith in
+      let place : length kept ≡ length kept + 0 = omega arith in
+      let last : get_or (kept ++ more) (length kept) none ≡ t =
+      ap (λ (k : ℕ). get_or (kept ++ more) k none) place ∙ get_or-append-add kept more 0 none
+      ∙ ap (λ (ss : List HeldStep). get_or ss 0 none) e in
+      let told : IsTold t =
+      subst IsTold last (told-at L plain_push full_cover_of tested own (kept ++ more) (length kept) none lines.told inside) in
+      named (suc (length kept)) B t
+      (cover-is L plain_push full_cover_of tested own c run kept more B lines held (length kept) (omega arith)
+      ∙ ap full_cover_of last-is)
+      (line-at L plain_push full_cover_of tested own c run kept more B lines held (length kept) inside ∙ ap held_lines last)
+      (stopped-gives L B (tested B) t told is none_kept small)
+
+-- each step of a run
+pub give-answers : (tested : Answer → Overlap → Type 0) (L : LPresentation) (c : Certificate) (run : Run) (steps : List HeldStep) (B : Answer)
+    → AreLinesOf (steps_of c run) steps
+    → (AreHeldSteps L plain_push full_cover_of tested (trivial_answer c.prime c.presentation.names) steps B × (length steps ≡ c.class))
+    ⊎ AreStoppedSteps L plain_push full_cover_of tested c.class (trivial_answer c.prime c.presentation.names) steps B
+    → IsOffered c.prime → IsAnswer B → B.names ≡ c.presentation.names → B.presentation.rank ≤ max_rank
+    → (k : ℕ) → 1 ≤ k → k ≤ length (steps_of c run) → GiveAnswer full_kind (cover_at full_cover_of c run k) (step_of c run k)
+give-answers tested L c run steps B lines held offered answer names small zero first l = absurd (omega arith)
+give-answers tested L c run steps B lines (inl all) offered answer names small (suc k) first l =
+    let long : length (steps_of c run) ≡ length steps = ap (λ (ls : List StepLines). length ls) lines.are ∙ length-map steps held_lines in
+    gives-kept tested L c run steps [] B (subst (AreLinesOf (steps_of c run)) (sym (append-nil steps)) lines) all.0 offered answer names k
+    (omega arith) small
+give-answers tested L c run steps B lines (inr h) offered answer names small (suc k) first l =
+    let e : steps ≡ h.earlier ++ h.last ∷ [] = h.all in
+    let longer : length steps ≡ length h.earlier + 1 = ap (λ (ss : List HeldStep). length ss) e ∙ length-append h.earlier (h.last ∷ []) in
+    let long : length (steps_of c run) ≡ length steps = ap (λ (ls : List StepLines). length ls) lines.are ∙ length-map steps held_lines in
+    let here : AreLinesOf (steps_of c run) (h.earlier ++ h.last ∷ []) = subst (AreLinesOf (steps_of c run)) e lines in
+    ⊎_elim
+    (λ before. gives-kept tested L c run h.earlier (h.last ∷ []) B here h.held offered answer names k before small)
+    (λ not_before.
+    let last : length h.earlier ≡ k = omega arith in
+    subst (λ (j : ℕ). GiveAnswer full_kind (cover_at full_cover_of c run (suc j)) (step_of c run (suc j))) last
+    (gives-stopped tested L c run h.earlier (h.last ∷ []) B here h.held offered answer names h.last [] refl h.is_step h.none_kept small))
+    (cases_lt k (length h.earlier))

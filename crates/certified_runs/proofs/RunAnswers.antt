@@ -220,8 +220,8 @@ module _ (tested : Answer → Overlap → Type 0) (L : LPresentation) (c : Certi
       (stopped-gives L B (tested B) t told is none_kept small)
 
 -- each step of a run
-pub give-answers : (tested : Answer → Overlap → Type 0) (L : LPresentation) (c : Certificate) (run : Run) (steps : List HeldStep) (B : Answer)
-    → AreLinesOf (steps_of c run) steps
+pub give-answers : (tested : Answer → Overlap → Type 0) (L : LPresentation) (c : Certificate) (run : Run) (steps : List HeldStep)
+    (B : Answer) → AreLinesOf (steps_of c run) steps
     → (AreHeldSteps L plain_push full_cover_of tested (trivial_answer c.prime c.presentation.names) steps B × (length steps ≡ c.class))
     ⊎ AreStoppedSteps L plain_push full_cover_of tested c.class (trivial_answer c.prime c.presentation.names) steps B
     → IsOffered c.prime → IsAnswer B → B.names ≡ c.presentation.names → B.presentation.rank ≤ max_rank

@@ -118,7 +118,8 @@ module _ (L : LPresentation) (meaning : RowedPresentation → State → ℕ → 
     keeps-some : (k : ℕ) → k < length kept → kept_at cover c run (suc k) ≢ []
     keeps-some k l =
         let step = held-at kept start B k none held l in
-        let made = held_lines_make_what_the_basis_makes (cover (answer_of start kept k)) (get_or kept k none) (step-told k l) step.is.prime step.is.width in
+        let made = held_lines_make_what_the_basis_makes (cover (answer_of start kept k)) (get_or kept k none)
+        (step-told k l) step.is.prime step.is.width in
         λ e. step.kept (sym made.kept ∙ sym (ap₂ kept_in (cover-is k (omega (arith, l))) (step-is k l)) ∙ e)
 
     -- each step up to the one behind these has only steps before it that keep a tail

@@ -16,5 +16,6 @@ pub mod ValidParts
 pub mod JudgedOverlaps
 pub mod PlainValues
 pub mod PlainMaps
+pub mod PlainEndomorphisms
 mod CertificateVectors
 mod ValidVectors

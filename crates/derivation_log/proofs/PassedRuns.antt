@@ -44,7 +44,8 @@ plainly Y = plain_push Y
 
 -- one held step
 module _ (kind : CertificateKind) (tested : Answer → Overlap → Type 0)
-    (allowed : (A : Answer) (o : Overlap) → tested A o → kind.tested A o) (L : LPresentation) (C : CoverOf) (A : Answer) (same : C.answer ≡ A)
+    (allowed : (A : Answer) (o : Overlap) → tested A o
+    → kind.tested A o) (L : LPresentation) (C : CoverOf) (A : Answer) (same : C.answer ≡ A)
     (s : HeldStep) (is : IsHeldStep L plainly C (tested A) s) (told : IsTold s) where
   allowed-source : (r : RowSource) → IsTestedSource (tested A) r → IsTestedSource (kind.tested C.answer) r
   allowed-source (source.Test o) t = subst (λ (B : Answer). kind.tested B o) (sym same) (allowed A o t)
@@ -73,7 +74,8 @@ module _ (kind : CertificateKind) (same_answer : (A : Answer) → (kind.cover A)
 
   -- a held step at its place
   placed : (k : ℕ) (A : Answer) (s : HeldStep) → IsHeldStep L plainly (kind.cover A) (tested A) s → IsTold s
-      → cover_at kind.cover c run k ≡ kind.cover A → step_of c run k ≡ held_lines s → IsNotExtra kind.cover c run k → PassesStep kind c run k
+      → cover_at kind.cover c run k ≡ kind.cover A → step_of c run k ≡ held_lines s → IsNotExtra kind.cover c run k
+      → PassesStep kind c run k
   placed k A s is told cover line extra = record {
     extra = extra;
     rows = subst (λ (C : CoverOf). HavePlainRows kind L C (step_of c run k)) (sym cover)
@@ -103,7 +105,8 @@ module _ (kind : CertificateKind) (same_answer : (A : Answer) → (kind.cover A)
     count = ap (λ (ls : List StepLines). length ls) lines.are ∙ length-map (kept ++ more) held_lines
 
   -- all steps keep a tail, and there is one for each class
-  all-kept : (steps : List HeldStep) (B : Answer) → AreLinesOf (steps_of c run) steps → AreHeldSteps L plainly kind.cover tested first steps B
+  all-kept : (steps : List HeldStep) (B : Answer) → AreLinesOf (steps_of c run) steps
+      → AreHeldSteps L plainly kind.cover tested first steps B
       → length steps ≡ c.class → PassesSteps kind c run B
   all-kept steps B lines held full =
       let with_none : AreLinesOf (steps_of c run) (steps ++ []) = subst (AreLinesOf (steps_of c run)) (sym (append-nil steps)) lines in
@@ -111,7 +114,8 @@ module _ (kind : CertificateKind) (same_answer : (A : Answer) → (kind.cover A)
       record {
         steps = λ k from_one l. step-of steps B with_none held k from_one (omega (arith, l, long)) full;
         short = inl (omega (arith, full, long));
-        builds = ap (answer_after kind.cover c run) long ∙ built-kept L plainly kind.cover tested same_answer c run steps [] B with_none held;
+        builds = ap (answer_after kind.cover c run) long
+            ∙ built-kept L plainly kind.cover tested same_answer c run steps [] B with_none held;
       } where
         step-of : (steps : List HeldStep) (B : Answer) (lines : AreLinesOf (steps_of c run) (steps ++ []))
             (held : AreHeldSteps L plainly kind.cover tested first steps B) (k : ℕ) → 1 ≤ k → k ≤ length steps → length steps ≡ c.class
@@ -152,7 +156,8 @@ module _ (kind : CertificateKind) (same_answer : (A : Answer) → (kind.cover A)
     passes-last : PassesStep kind c run (suc (length earlier))
     passes-last =
         placed (suc (length earlier)) B last is last-told last-cover last-line
-        (not_extra L plainly kind.cover tested same_answer c run earlier (last ∷ []) B lines held (length earlier) (omega arith) (omega (arith, few)))
+        (not_extra L plainly kind.cover tested same_answer c run earlier (last ∷ []) B lines held (length earlier) (omega arith)
+        (omega (arith, few)))
 
     passes-each : (k : ℕ) → 1 ≤ k → k ≤ suc (length earlier) → PassesStep kind c run k
     passes-each zero from_one l = absurd (omega arith)
@@ -198,6 +203,7 @@ module _ (kind : CertificateKind) (same_answer : (A : Answer) → (kind.cover A)
       elim (named steps B h first (ap (trivial_answer c.prime) (same_names run))) [
         | inl all ↦ all-kept steps B lines all.0 all.1
         | inr stopped ↦
-            all-but-last-kept stopped.earlier stopped.last B (subst (AreLinesOf (steps_of c run)) stopped.all lines) stopped.held stopped.few
+            all-but-last-kept stopped.earlier stopped.last B
+            (subst (AreLinesOf (steps_of c run)) stopped.all lines) stopped.held stopped.few
             stopped.is_step stopped.none_kept
       ]

@@ -20,7 +20,7 @@ use Rattle.derivation_log.specs.PlainValues.{bare_state, identity_of, IsValue, i
 bare-word : (P : Presentation) (e : List ℕ) → word_of (without_rows P) (bare_state e) ≡ normal_word e
 bare-word P e = append-nil (letters (spelled 0 e)) ∙ letters-spelled 0 e
 
-bare-words : (P : Presentation) (es : List (List ℕ)) → map (word_of (without_rows P)) (map bare_state es) ≡ map normal_word es
+pub bare-words : (P : Presentation) (es : List (List ℕ)) → map (word_of (without_rows P)) (map bare_state es) ≡ map normal_word es
 bare-words P [] = refl
 bare-words P (e ∷ es) = ap₂ (λ (w : List ℤ) (ws : List (List ℤ)). w ∷ ws) (bare-word P e) (bare-words P es)
 
@@ -36,12 +36,14 @@ module _ (A : Answer) (is : IsPresentation A.presentation) where
       let two = is.prime in identity-state (without_rows A.presentation) A.presentation.rank (omega arith) in
       let joined = arithmetic.values f h.inverses (identity_of A) w h.images start l in
       let from_one = subst (λ (u : List ℤ). Joined (flat (without_rows A.presentation))
-      (word_of (without_rows A.presentation) (evaluate_from (without_rows A.presentation) (plain_push (without_rows A.presentation)) f h.inverses (identity_of A) w))
+      (word_of (without_rows A.presentation) (evaluate_from (without_rows A.presentation)
+      (plain_push (without_rows A.presentation)) f h.inverses (identity_of A) w))
       (u ++ sub w (map (word_of (without_rows A.presentation)) f)))
       (identity-word (without_rows A.presentation) rowed is.prime (plain_push (without_rows A.presentation)) meaning) joined in
       let at_value = subst (λ (s : State). Joined (flat (without_rows A.presentation)) (word_of (without_rows A.presentation) s)
       (sub w (map (word_of (without_rows A.presentation)) f))) h.value from_one in
-      subst (λ (P : Presentation). Joined P (word_of (without_rows A.presentation) v) (sub w (map (word_of (without_rows A.presentation)) f)))
+      subst (λ (P : Presentation). Joined P (word_of (without_rows A.presentation) v)
+      (sub w (map (word_of (without_rows A.presentation)) f)))
       (flat-without_rows A.presentation) at_value
 
   -- an answer whose images carry a word to the identity kills it

@@ -53,7 +53,8 @@ module _ {X : Type 0} (P : X → Type 0) where
   ranges-all f zero a all k l m = absurd (omega arith)
   ranges-all f (suc n) a all k l m = elim (cases_eq a k) [
     | inl here ↦ subst (λ (j : ℕ). All P (f j)) here (all-left (f a) (flat_map f (numbers_from (suc a) n)) all)
-    | inr other ↦ ranges-all f n (suc a) (all-right (f a) (flat_map f (numbers_from (suc a) n)) all) k (at_least_next a k l other) (omega arith)
+    | inr other ↦ ranges-all f n (suc a) (all-right (f a) (flat_map f (numbers_from (suc a) n)) all) k (at_least_next a k l other)
+        (omega arith)
   ]
 
 module _ (kind : CertificateKind) (c : Certificate) where
@@ -95,7 +96,8 @@ module _ (kind : CertificateKind) (c : Certificate) where
         ∷ cond (judges_endos c.presentation run) (last_trial c run part.Endo ∷ []) []) h.short
         (All-cons pass (last_trial c run part.Overlap) (last_trial c run part.Iterated
         ∷ cond (judges_endos c.presentation run) (last_trial c run part.Endo ∷ []) []) h.overlaps
-        (All-cons pass (last_trial c run part.Iterated) (cond (judges_endos c.presentation run) (last_trial c run part.Endo ∷ []) []) h.iterated
+        (All-cons pass (last_trial c run part.Iterated)
+        (cond (judges_endos c.presentation run) (last_trial c run part.Endo ∷ []) []) h.iterated
         (all-where pass (judges_endos c.presentation run) (last_trial c run part.Endo ∷ [])
         (λ e. All-cons pass (last_trial c run part.Endo) [] (h.endos e) (All-nil pass))))))
 
@@ -142,15 +144,18 @@ module _ (kind : CertificateKind) (c : Certificate) where
       record {
         iterated = λ e.
             run-keeps Iterated
-            (where-all pass (has_two_runs c.presentation) (run_trials c Iterated) (all-left pass first_run (run_trials c Whole ++ last_parts) valid) e);
+            (where-all pass (has_two_runs c.presentation) (run_trials c Iterated)
+            (all-left pass first_run (run_trials c Whole ++ last_parts) valid) e);
         whole = run-keeps Whole (all-left pass (run_trials c Whole) last_parts second);
         fixed = all-head pass (last_trial c Whole part.Fixed) behind_fixed third;
         map = λ e.
             all-head pass (last_trial c Whole part.Map) []
             (where-all pass (has_two_runs c.presentation) (last_trial c Whole part.Map ∷ [])
-            (all-left pass (cond (has_two_runs c.presentation) (last_trial c Whole part.Map ∷ []) []) (last_trial c Whole part.Answer ∷ []) fourth) e);
+            (all-left pass (cond (has_two_runs c.presentation) (last_trial c Whole part.Map ∷ []) [])
+            (last_trial c Whole part.Answer ∷ []) fourth) e);
         answer = all-head pass (last_trial c Whole part.Answer) []
-            (all-right pass (cond (has_two_runs c.presentation) (last_trial c Whole part.Map ∷ []) []) (last_trial c Whole part.Answer ∷ []) fourth);
+            (all-right pass (cond (has_two_runs c.presentation) (last_trial c Whole part.Map ∷ []) [])
+            (last_trial c Whole part.Answer ∷ []) fourth);
       }
 
 pub valid_certificates_keep_all : ValidCertificatesKeepAll full_kind

@@ -238,7 +238,8 @@ second_rank = record { limit = lit≤ tt; may_keep = λ k d l. absurd (omega (ar
 
 fixed_trivial : AreCarriedToIdentity answer_of_order_two ((pos 1 ∷ pos 1 ∷ []) ∷ [])
 fixed_trivial =
-    All-cons (IsCarriedToIdentity answer_of_order_two) (pos 1 ∷ pos 1 ∷ []) [] square_of_image (nothing (IsCarriedToIdentity answer_of_order_two))
+    All-cons (IsCarriedToIdentity answer_of_order_two) (pos 1 ∷ pos 1 ∷ []) [] square_of_image
+    (nothing (IsCarriedToIdentity answer_of_order_two))
 
 -- the parts that are judged but for the last
 abbrev twelve : List Trial

@@ -7,8 +7,8 @@ pub mod ImagesTold
 pub mod GeneratorsTold
 pub mod HeadTold
 pub mod OneText
-mod FormLaws
-mod AnswerForm
+pub mod FormLaws
+pub mod AnswerForm
 mod FirstPlaces
 mod WordSteps
 mod RelationAppends

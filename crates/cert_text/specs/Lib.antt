@@ -1,0 +1,4 @@
+pub mod CertificateText
+pub mod LineByLine
+pub mod CertificatePlaces
+pub mod CertificateFaults

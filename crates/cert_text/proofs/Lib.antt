@@ -1,1 +1,2 @@
 mod CertificateTextVectors
+pub mod texts

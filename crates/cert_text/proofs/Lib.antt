@@ -1,2 +1,3 @@
 mod CertificateTextVectors
 pub mod texts
+pub mod lines

@@ -1,0 +1,5 @@
+-- The lines of a certificate's text: which follows which, and that the places are told by them.
+pub mod FormLaws
+pub mod LineByLine
+pub mod PresentationLeads
+pub mod PresentationLines

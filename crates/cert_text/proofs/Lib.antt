@@ -1,3 +1,4 @@
 mod CertificateTextVectors
+pub mod CertificateLaws
 pub mod texts
 pub mod lines

@@ -1,5 +1,7 @@
 -- The lines of a certificate's text: which follows which, and that the places are told by them.
+pub mod CertificateLeads
 pub mod FormLaws
 pub mod LineByLine
 pub mod PresentationLeads
 pub mod PresentationLines
+pub mod RunLeads

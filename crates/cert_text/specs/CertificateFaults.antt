@@ -9,9 +9,8 @@ use Rattle.cert_text.specs.CertificatePlaces.{Place, HasForm, IsEnd}
 use Rattle.cert_text.specs.CertificatePlaces.Place.{for_version}
 use Rattle.cert_text.specs.LineByLine.{IsWhole, IsFirstBad}
 
--- the text of a certificate of version 1
 abbrev pub IsCertificateText : List ℕ → Type 0
-IsCertificateText bytes = (c : Certificate) × IsWritable c × (c.version ≡ 1) × (bytes ≡ certificate_text c)
+IsCertificateText bytes = (c : Certificate) × IsWritable c × (bytes ≡ certificate_text c)
 
 -- lines count from 1
 abbrev pub IsFaultLine : List ℕ → ℕ → Type 0

@@ -103,8 +103,9 @@ pub record HasText (L : LPresentation) : Type 0 where
   pub presentation : IsLPresentation L
   pub limits : IsWithinLimits L
 
--- a certificate within the limits of texts
+-- a certificate of version 1 within the limits of texts
 pub record IsWritable (c : Certificate) : Type 0 where
+  pub version : c.version ≡ 1
   pub certificate : IsCertificate c
   pub presentation : HasText c.presentation
   pub answer : answers.IsWritable c.answer

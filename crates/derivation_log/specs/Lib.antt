@@ -9,3 +9,4 @@ pub mod CertificateParts
 pub mod Validity
 pub mod CertificateLaws
 pub mod CertificateForms
+pub mod HeldLines

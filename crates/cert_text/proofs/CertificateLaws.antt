@@ -1,19 +1,17 @@
 -- One text has one certificate, bytes have one fault line at most, and none where they are a certificate's text.
-use Rattle.std.proofs.Common.{◌≡◌, ℕ, zero, suc, List, [], ◌∷◌, ◌++◌, ap, sym, subst, ◌∙◌, inl, inr}
+use Rattle.std.proofs.Common.{◌≡◌, ℕ, zero, suc, List, [], ap, sym, subst, ◌∙◌, inl, inr}
 use Rattle.std.specs.Prelude.{codes, reverse}
-use Rattle.pq_base.specs.LPresentation.{LPresentation}
-use Rattle.pq_base.specs.Answer.{Answer}
 use Rattle.answer_text.specs.AnswerText.{answer_text}
 use Rattle.answer_text.specs.AnswerPlaces.Place.{for_prime}
 use Rattle.answer_text.proofs.OneText.{one_text_one_answer}
 use Rattle.derivation_log.specs.declared.source.Run.TheVariants.{Whole}
 use Rattle.derivation_log.specs.Certificates.{StepLines, Certificate}
-use Rattle.cert_text.specs.CertificateText.{IsWritable, certificate_text, OneTextOneCertificate}
+use Rattle.cert_text.specs.CertificateText.{OneTextOneCertificate}
 use Rattle.cert_text.specs.LineByLine.{IsWhole}
 use Rattle.cert_text.specs.CertificatePlaces.{Place, HasForm, IsEnd, Head, head_of}
 use Rattle.cert_text.specs.CertificatePlaces.Place.{for_version, for_generators, in_presentation, for_class, for_run, in_run, in_answer}
 use Rattle.cert_text.specs.CertificatePlaces.HasForm.{of_answer}
-use Rattle.cert_text.specs.CertificateFaults.{IsFaultLine, OneFaultLine, FaultsAreNoCertificates}
+use Rattle.cert_text.specs.CertificateFaults.{OneFaultLine, FaultsAreNoCertificates}
 use Rattle.cert_text.proofs.lines.LineByLine.{Leads-same, first_bad-same, IsWhole-same}
 use Rattle.cert_text.proofs.lines.FormLaws.{tells_places}
 use Rattle.cert_text.proofs.lines.CertificateLeads.{front_lines, head, certificate_text-parts, front-leads, answer-form, IsWhole-certificate_text}

@@ -1,14 +1,13 @@
 -- The text of the certificate that the dihedral group of order sixteen is the largest quotient of class 3 of the group of two
 -- involutions.
-use Rattle.std.proofs.Common.{◌≡◌, ℕ, ℤ, pos, List, [], ◌∷◌, codes, refl}
+use Rattle.std.proofs.Common.{◌≡◌, pos, [], ◌∷◌, codes, refl}
 use Rattle.std.specs.Fmt.{digits}
-use Rattle.pq_base.specs.LPresentation.{LPresentation}
 use Rattle.pq_base.proofs.vectors.LPresentations.{x_and_y}
 use Rattle.pq_base.proofs.vectors.Answers.{answer_of_order_sixteen}
 use Rattle.pc_presentation.specs.declared.overlap.Overlap.TheVariants.{Left, Right}
 use Rattle.lpres_reader.specs.CanonicalText.{word_text}
 use Rattle.derivation_log.specs.declared.source.RowSource.TheVariants.{Test, Fixed}
-use Rattle.derivation_log.specs.Certificates.{TailLine, StepLines, Certificate}
+use Rattle.derivation_log.specs.Certificates.{StepLines, Certificate}
 use Rattle.cert_text.specs.CertificateText.{certificate_text}
 
 abbrev second_step : StepLines

@@ -5,3 +5,4 @@ pub mod LineByLine
 pub mod PresentationLeads
 pub mod PresentationLines
 pub mod RunLeads
+pub mod WrittenLines

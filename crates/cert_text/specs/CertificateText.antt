@@ -1,6 +1,6 @@
 -- The text of a certificate.
 -- From: this project's own format. Numbers are in decimal; relators, endomorphisms, tails and the sources of a step count from 1.
-use Rattle.std.specs.Prelude.{◌≡◌, ℕ, zero, suc, Bool, true, false, List, [], ◌∷◌, ◌++◌, All, map, codes, decimal}
+use Rattle.std.specs.Prelude.{◌≡◌, ℕ, suc, Bool, true, false, List, [], ◌∷◌, ◌++◌, All, map, codes, decimal}
 use Rattle.pq_base.specs.Lines.{text_of_lines}
 use Rattle.pq_base.specs.LPresentation.{LPresentation, IsLPresentation}
 use Rattle.pq_base.specs.Name.{IsName}
@@ -66,18 +66,25 @@ tail_line l = codes "tail " ++ (decimal l.tail ++ (codes " = " ++ (kept_text l.k
 abbrev pub step_line : ℕ → List ℕ
 step_line k = codes "step " ++ decimal k
 
--- the steps behind k others
+-- the lines of step k
+abbrev pub step_lines : ℕ → StepLines → List (List ℕ)
+step_lines k s = step_line k ∷ (map source_line s.sources ++ map tail_line s.tails)
+
+-- the lines of the steps behind k others
 abbrev pub steps_lines : ℕ → List StepLines → List (List ℕ)
 steps_lines k [] = []
-steps_lines k (s ∷ ss) = step_line (suc k) ∷ (map source_line s.sources ++ (map tail_line s.tails ++ steps_lines (suc k) ss))
+steps_lines k (s ∷ ss) = step_lines (suc k) s ++ steps_lines (suc k) ss
 
 abbrev pub run_line : Run → List ℕ
 run_line Iterated = codes "run iterated"
 run_line Whole = codes "run whole"
 
+abbrev pub run_lines : Run → List StepLines → List (List ℕ)
+run_lines run ss = run_line run ∷ steps_lines 0 ss
+
 -- the run over the iterated part, where there are two runs
 abbrev pub iterated_lines : Bool → List StepLines → List (List ℕ)
-iterated_lines true ss = run_line Iterated ∷ steps_lines 0 ss
+iterated_lines true ss = run_lines Iterated ss
 iterated_lines false ss = []
 
 abbrev pub version_line : ℕ → List ℕ
@@ -85,7 +92,7 @@ version_line v = codes "certificate " ++ decimal v
 
 -- the lines of both runs
 abbrev pub runs_lines : Certificate → List (List ℕ)
-runs_lines c = iterated_lines (has_two_runs c.presentation) c.iterated ++ (run_line Whole ∷ steps_lines 0 c.whole)
+runs_lines c = iterated_lines (has_two_runs c.presentation) c.iterated ++ run_lines Whole c.whole
 
 abbrev pub certificate_lines : Certificate → List (List ℕ)
 certificate_lines c =

@@ -1,4 +1,11 @@
-//! Certificates as texts. What the text of a certificate is, and where a text that is none has its first fault, is said in `specs/`.
+//! Certificates as texts: `write` writes the one text of a certificate. What the text of a certificate is, and where a text that is none
+//! has its first fault, is said in `specs/`.
 #![tactic(auto)]
 
 pub mod laws;
+mod numbers;
+mod source_lines;
+mod tail_lines;
+mod writing;
+
+pub use writing::write;

@@ -1,8 +1,7 @@
 -- The lines of a certificate have their form in their places, up to the end of its answer.
-use Rattle.std.proofs.Common.{◌≡◌, ◌<◌, ◌≤◌, ℕ, zero, suc, Bool, true, false, List, [], ◌∷◌, ◌++◌, length, refl, ap, sym, subst, ◌∙◌, append_assoc, append-nil, arith}
+use Rattle.std.proofs.Common.{◌≡◌, ℕ, zero, suc, Bool, true, false, List, [], ◌∷◌, ◌++◌, length, refl, ap, sym, subst, ◌∙◌, append_assoc, append-nil}
 use Rattle.std.specs.Prelude.{codes, reverse}
 use Rattle.std.proofs.lemmas.List.{reverse-reverse}
-use Rattle.pq_base.specs.LPresentation.{LPresentation}
 use Rattle.pq_base.specs.Prime.{IsOffered}
 use Rattle.pq_base.specs.Lines.{text_of_lines}
 use Rattle.pq_base.proofs.LineLaws.{text_of_lines-append}
@@ -15,7 +14,7 @@ use Rattle.answer_text.specs.AnswerFaults as answer_faults
 use Rattle.answer_text.proofs.AnswerForm.{IsWhole-answer_text}
 use Rattle.derivation_log.specs.declared.source.Run.TheVariants.{Iterated, Whole}
 use Rattle.derivation_log.specs.Certificates.{StepLines, Certificate, has_two_runs}
-use Rattle.cert_text.specs.CertificateText.{HasText, IsWritable, version_line, run_line, steps_lines, iterated_lines, runs_lines, certificate_lines, certificate_text}
+use Rattle.cert_text.specs.CertificateText.{IsWritable, version_line, run_line, steps_lines, iterated_lines, runs_lines, certificate_lines, certificate_text}
 use Rattle.cert_text.specs.LineByLine.{Leads, IsWhole}
 use Rattle.cert_text.specs.CertificatePlaces.{Place, HasForm, IsEnd, Head, head_of, IsHead}
 use Rattle.cert_text.specs.CertificatePlaces.Place.{for_version, for_generators, in_presentation, for_class, for_run, in_run, in_answer}

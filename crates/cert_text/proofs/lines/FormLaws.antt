@@ -1,6 +1,5 @@
 -- A line that has the form of a line in its place has no newline in it, and leads to one place only.
-use Rattle.std.proofs.Common.{◌≡◌, ◌<◌, ◌≤◌, ℕ, zero, suc, Bool, true, false, ◌&&◌, List, [], ◌∷◌, ◌++◌, length, drop, decimal, refl, ap, sym, subst, ◌∙◌, arith}
-use Rattle.std.specs.Prelude.{codes, reverse}
+use Rattle.std.proofs.Common.{◌≡◌, ◌<◌, ◌≤◌, ℕ, suc, true, false, ◌&&◌, List, [], ◌∷◌, ◌++◌, length, drop, refl, ap, sym, subst, ◌∙◌, arith}
 use Rattle.std.proofs.lemmas.Bool.{and_parts}
 use Rattle.pq_base.specs.LPresentation.{LPresentation}
 use Rattle.pq_base.specs.Limits.{max_class}
@@ -12,12 +11,9 @@ use Rattle.answer_text.specs.AnswerPlaces as answers
 use Rattle.answer_text.specs.AnswerPlaces.Place.{at_end}
 use Rattle.answer_text.proofs.FormLaws as answer_forms
 use Rattle.answer_text.proofs.Splits.{first-apart, avoids}
-use Rattle.derivation_log.specs.declared.source.Run.{Run}
-use Rattle.derivation_log.specs.declared.source.Run.TheVariants.{Iterated, Whole}
 use Rattle.derivation_log.specs.declared.source.RowSource.{RowSource}
 use Rattle.derivation_log.specs.Certificates.{TailLine, StepLines}
 use Rattle.derivation_log.specs.CertificateForms.{is_number_from, is_tail_line, are_tail_lines}
-use Rattle.cert_text.specs.CertificateText.{HasText, run_line}
 use Rattle.cert_text.specs.CertificatePlaces.{Place, HasForm, IsEnd, Head, IsHead, with_source, with_tail}
 use Rattle.cert_text.specs.CertificatePlaces.Place.{in_presentation, for_class, for_run, in_run, in_answer}
 use Rattle.cert_text.specs.CertificatePlaces.HasForm.{version, generators, item, prime, class, first_of_two_runs, only_run, step, source, tail, second_run, answer, of_answer}

@@ -1,9 +1,9 @@
 -- Texts that are judged line by line have one first fault, where no line has a newline in it, each leads to one place, and nothing
 -- follows an end. Lines that lead from one place are told by their text up to a place that is not past some line.
-use Rattle.std.proofs.Common.{◌≡◌, ◌<◌, ◌≤◌, ℕ, zero, suc, true, List, [], ◌∷◌, ◌++◌, length, refl, ap, sym, subst, ◌∙◌, append_assoc, arith}
+use Rattle.std.proofs.Common.{◌≡◌, ◌≤◌, ℕ, zero, suc, true, List, [], ◌∷◌, ◌++◌, refl, ap, sym, subst, ◌∙◌, append_assoc, arith}
 use native.Mathlib.Decide.{dec_lt}
 use Rattle.pq_base.specs.Lines.{text_of_lines}
-use Rattle.answer_text.proofs.Splits.{avoids, nil-split, split-same}
+use Rattle.answer_text.proofs.Splits.{avoids, split-same}
 use Rattle.cert_text.specs.LineByLine as line_by_line
 
 -- no line has a newline in it, each leads to one place, and nothing follows an end

@@ -1,12 +1,12 @@
 -- The lines of a presentation's canonical text have their form in their places: each makes a presentation of those before it.
-use Rattle.std.proofs.Common.{◌≡◌, ◌≤◌, ◌+◌, ℕ, suc, List, [], ◌∷◌, ◌++◌, All, length, map, codes, refl, sym, ap, subst, ◌∙◌, append_assoc, append-nil, arith}
+use Rattle.std.proofs.Common.{◌≡◌, ◌≤◌, ◌+◌, ℕ, List, [], ◌∷◌, ◌++◌, All, length, map, codes, refl, sym, ap, subst, ◌∙◌, append_assoc, append-nil, arith}
 use Rattle.std.specs.Prelude.{ℤ, sum_by}
 use Rattle.std.proofs.lemmas.List.{length-append}
 use Rattle.std.proofs.lemmas.List.Elements.{All-nil, All-cons, All-head, All-tail}
 use Rattle.std.proofs.lemmas.List.Sums.{sum_by-append}
-use Rattle.pq_base.specs.LPresentation.{LPresentation, IsLPresentation, AreWords, AreEndos}
+use Rattle.pq_base.specs.LPresentation.{LPresentation, AreWords, AreEndos}
 use Rattle.lpres_reader.specs.CanonicalText.{word_text, generators_line, relator_lines, endo_line, endo_lines, canonical_lines}
-use Rattle.lpres_reader.specs.Limits.{AreShort, letters_in, total_letters, IsWithinLimits}
+use Rattle.lpres_reader.specs.Limits.{AreShort, letters_in}
 use Rattle.cert_text.specs.CertificateText.{HasText}
 use Rattle.cert_text.specs.LineByLine.{Leads}
 use Rattle.cert_text.specs.CertificatePlaces.{Place, HasForm, IsEnd}

@@ -1,15 +1,13 @@
 -- The lines of a presentation's canonical text: each is one line, begins with no `p`, and makes a presentation of those before it; and
 -- all of them tell the presentation.
-use Rattle.std.proofs.Common.{◌≡◌, ◌≤◌, ◌+◌, ℕ, suc, Bool, true, false, cond, List, [], ◌∷◌, ◌++◌, All, get_or, length, map, codes, refl, sym, ap, subst, ◌∙◌, append_assoc, append-nil, arith}
-use Rattle.std.specs.Prelude.{ℤ, eqb, ◌==◌, sum_by}
-use Rattle.std.specs.List.{AllByRecursion, list_all}
-use Rattle.std.proofs.lemmas.List.{length-append}
-use Rattle.std.proofs.lemmas.List.Elements.{All-nil, All-cons, All-head, All-tail}
-use Rattle.std.proofs.lemmas.List.Sums.{sum_by-append}
-use Rattle.pq_base.specs.LPresentation.{LPresentation, IsLPresentation, AreWords, AreEndos}
+use Rattle.std.proofs.Common.{◌≡◌, ◌≤◌, ℕ, Bool, true, false, List, [], ◌∷◌, ◌++◌, All, get_or, length, codes, refl, sym, ap, subst}
+use Rattle.std.specs.Prelude.{ℤ, eqb, ◌==◌}
+use Rattle.std.specs.List.{AllByRecursion}
+use Rattle.std.proofs.lemmas.List.Elements.{All-head, All-tail}
+use Rattle.pq_base.specs.LPresentation.{LPresentation, AreWords, AreEndos}
 use Rattle.pq_base.specs.Name.{IsName}
 use Rattle.lpres_reader.specs.CanonicalText.{word_text, generators_line, relator_lines, endo_line, endo_lines, canonical_lines, canonical_text, text_of_lines}
-use Rattle.lpres_reader.specs.Limits.{AreShort, letters_in, total_letters, IsWithinLimits}
+use Rattle.lpres_reader.specs.Limits.{AreShort}
 use Rattle.lpres_reader.specs.Reads.{Reads}
 use Rattle.lpres_reader.specs.Tokens.{Token}
 use Rattle.lpres_reader.proofs.canonical_texts.CanonicalLines.{IsWritten, generators-written, fixed-written, iterated-written, endo-written}
@@ -18,11 +16,6 @@ use Rattle.lpres_reader.proofs.faults.ReaderLaws.{each_text_reads_or_fails}
 use Rattle.lpres_reader.proofs.texts.LineBytes.{line_is_plain, plain_is_one_line}
 use Rattle.answer_text.proofs.Splits.{avoids}
 use Rattle.cert_text.specs.CertificateText.{HasText}
-use Rattle.cert_text.specs.LineByLine.{Leads}
-use Rattle.cert_text.specs.CertificatePlaces.{Place, HasForm}
-use Rattle.cert_text.specs.CertificatePlaces.Place.{in_presentation}
-use Rattle.cert_text.specs.CertificatePlaces.HasForm.{item}
-use Rattle.cert_text.proofs.texts.NumberTexts.{AllFail}
 
 -- a presentation is told by the lines of its canonical text
 pub canonical_lines-same : (L M : LPresentation) → HasText L → HasText M → canonical_lines L ≡ canonical_lines M → L ≡ M

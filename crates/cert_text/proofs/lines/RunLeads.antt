@@ -1,6 +1,6 @@
 -- The lines of the steps of a run have their form in their places.
-use Rattle.std.proofs.Common.{◌≡◌, ◌<◌, ◌≤◌, ℕ, zero, suc, Bool, true, false, ◌&&◌, ◌||◌, List, [], ◌∷◌, ◌++◌, length, map, refl, ap, sym, subst, ◌∙◌, append_assoc, append-nil, arith}
-use Rattle.std.specs.Prelude.{leb, ltb, eqb, not, reverse}
+use Rattle.std.proofs.Common.{◌≡◌, ℕ, suc, Bool, true, false, ◌&&◌, ◌||◌, List, [], ◌∷◌, ◌++◌, length, map, refl, ap, sym, subst, ◌∙◌, append_assoc, append-nil}
+use Rattle.std.specs.Prelude.{ltb, eqb, not, reverse}
 use Rattle.std.proofs.lemmas.Bool.{and_parts, and_from}
 use Rattle.std.proofs.lemmas.List.{reverse-append}
 use Rattle.derivation_log.specs.declared.source.Run.{Run}
@@ -89,8 +89,10 @@ module _ (H : Head) (head : IsHead H) (run : Run) (earlier : List StepLines) whe
       subst (λ (xs : List StepLines). Leads Place HasForm (in_run H run earlier (s ∷ done)) (steps_lines (suc (length done)) ss) (in_run H run earlier xs)) (sym turned) (steps-lead (s ∷ done) ss second.1) in (
         in_run H run earlier (no_lines ∷ done),
         step H run earlier done,
-        Leads-append Place HasForm IsEnd tells_places (in_run H run earlier (no_lines ∷ done)) (in_run H run earlier (step_of s.sources [] ∷ done)) (in_run H run earlier (reverse (s ∷ ss) ++ done))
+        subst (λ (ls : List (List ℕ)). Leads Place HasForm (in_run H run earlier (no_lines ∷ done)) ls (in_run H run earlier (reverse (s ∷ ss) ++ done)))
+            (sym (append_assoc (map source_line s.sources) (map tail_line s.tails) (steps_lines (suc (length done)) ss)))
+            (Leads-append Place HasForm IsEnd tells_places (in_run H run earlier (no_lines ∷ done)) (in_run H run earlier (step_of s.sources [] ∷ done)) (in_run H run earlier (reverse (s ∷ ss) ++ done))
             (map source_line s.sources) (map tail_line s.tails ++ steps_lines (suc (length done)) ss) (sources-lead done [] s.sources first.0)
             (Leads-append Place HasForm IsEnd tells_places (in_run H run earlier (step_of s.sources [] ∷ done)) (in_run H run earlier (s ∷ done)) (in_run H run earlier (reverse (s ∷ ss) ++ done))
-            (map tail_line s.tails) (steps_lines (suc (length done)) ss) (tails-lead done s.sources [] s.tails second.0) more),
+            (map tail_line s.tails) (steps_lines (suc (length done)) ss) (tails-lead done s.sources [] s.tails second.0) more)),
       )

@@ -1,5 +1,5 @@
 -- The text of a source tells the source, and is one line.
-use Rattle.std.proofs.Common.{◌≡◌, ◌<◌, ◌≤◌, ℕ, zero, suc, Bool, true, false, ◌&&◌, ◌||◌, List, [], ◌∷◌, ◌++◌, get_or, drop, length, decimal, refl, ap, ap₂, sym, ◌∙◌, append-nil, arith}
+use Rattle.std.proofs.Common.{◌≡◌, ◌<◌, ◌≤◌, ℕ, Bool, true, false, ◌&&◌, ◌||◌, List, [], ◌∷◌, ◌++◌, get_or, drop, length, decimal, refl, ap, ap₂, sym, ◌∙◌, append-nil, arith}
 use Rattle.std.specs.Prelude.{leb, eqb}
 use Rattle.std.proofs.lemmas.Bool.{leb-true, and_parts}
 use Rattle.pq_base.specs.Table.{AllBelow}
@@ -14,7 +14,7 @@ use Rattle.derivation_log.specs.declared.source.RowSource.TheVariants.{Test, Fix
 use Rattle.derivation_log.specs.CertificateForms.{max_number, is_number_from, is_written_overlap, is_one_of, are_each_one_of, is_source_in}
 use Rattle.answer_text.proofs.Splits.{first-same, first-apart, avoids, avoids-append}
 use Rattle.cert_text.specs.CertificateText.{numbers_text, overlap_text, along_text, source_text, source_line}
-use Rattle.cert_text.proofs.texts.NumberTexts.{greatest, StartsWell, is_no_digit, decimal-told, numbers_text-same, avoids-any_decimal, avoids-numbers}
+use Rattle.cert_text.proofs.texts.NumberTexts.{greatest, StartsWell, is_no_digit, decimal-told, numbers_text-same, avoids-numbers}
 
 pub number-below : (least n : ℕ) → is_number_from least n ≡ true → n < greatest
 number-below least n h = let most : n ≤ max_number = leb-true n max_number (and_parts (leb least n) (leb n max_number) h).1 in omega arith

@@ -1,5 +1,5 @@
 -- The line of a tail tells what it says, and is one line.
-use Rattle.std.proofs.Common.{◌≡◌, ◌<◌, ◌≤◌, ℕ, zero, suc, Bool, true, false, ◌&&◌, List, [], ◌∷◌, ◌++◌, drop, length, decimal, refl, ap, ap₂, sym, ◌∙◌, append_assoc, arith}
+use Rattle.std.proofs.Common.{◌≡◌, ◌<◌, ℕ, suc, true, ◌&&◌, List, [], ◌∷◌, ◌++◌, drop, length, decimal, refl, ap, ap₂, sym, ◌∙◌, append_assoc, arith}
 use Rattle.std.specs.Prelude.{leb, ltb, codes}
 use Rattle.std.proofs.lemmas.Bool.{ltb-true, and_parts}
 use Rattle.derivation_log.specs.Certificates.{TailLine}

@@ -6,7 +6,7 @@ ghost use Rattle.lpres_reader.specs.CanonicalText.{canonical_text};
 ghost use Rattle.answer_text.specs.AnswerText.{answer_text};
 ghost use Rattle.answer_text.specs.AnswerPlaces.{prime_line, class_line};
 ghost use Rattle.derivation_log.specs.Certificates.{has_two_runs as are_two_runs};
-ghost use Rattle.cert_text.specs.CertificateText.{version_line, step_line, step_lines, steps_lines, run_line, run_lines, iterated_lines, certificate_text};
+ghost use Rattle.cert_text.specs.CertificateText.{version_line, step_line, step_lines, steps_lines, run_line, run_lines, iterated_lines, certificate_text, IsWritable};
 
 use crate::source_lines::push_sources;
 use crate::tail_lines::push_tails;
@@ -18,8 +18,10 @@ use std::alloc::Global;
 
 /// The text of a certificate: every byte of it is determined by the certificate.
 pub fn write(alloc: Global, cert: &Cert) -> Result<Vec<u8>, NoMemory>
-    ensures { IfOk result (λ text. text.items ≡ certificate_text cert.now) }
+    ensures text { IfOk result (λ text. text.items ≡ certificate_text cert.now) }
+    ensures writable { cert.now.version ≡ 1 → IsWritable cert.now }
 {
+    keeps_limits(cert);
     let mut out = Vec::new(alloc);
     push_version(&mut out, cert.version())?;
     push_presentation(&mut out, cert.pres())?;
@@ -28,6 +30,15 @@ pub fn write(alloc: Global, cert: &Cert) -> Result<Vec<u8>, NoMemory>
     push_run(&mut out, Run::Whole, cert.steps(Run::Whole))?;
     push_answer(&mut out, cert.answer())?;
     Ok(out)
+}
+
+/// A certificate keeps the limits of texts. This takes no step.
+fn keeps_limits(cert: &Cert)
+    ensures { cert.now.version ≡ 1 → IsWritable cert.now }
+{
+    let _version = cert.version();
+    let _names = cert.pres().names();
+    let _rank = cert.answer().pcp().rank();
 }
 
 /// The first line.

@@ -7,32 +7,21 @@ use Rattle.std.specs.Fmt.{digits, digits_onto, digit_glyph}
 use Rattle.pq_base.specs.Table.{AllBelow}
 use Rattle.answer_text.specs.Numbers.{is_digit}
 use Rattle.answer_text.proofs.Splits.{first-same, rest-same, avoids, avoids-append, avoids-cons}
+pub use Rattle.cert_text.specs.NumberFronts.{is_no_digit, AllFail, StartsWell}
 use Rattle.cert_text.specs.CertificateText.{numbers_text}
 
 -- a list is cut in one way in front of a member that passes a test, where those before it fail the test
 module _ {X : Type 0} (test : X → Bool) where
-  abbrev pub AllFail : List X → Type 0
-  AllFail [] = Unit {0}
-  AllFail (x ∷ xs) = (test x ≡ false) × AllFail xs
+  no_start : (y : X) (ys us : List X) → test y ≡ false → StartsWell test us → us ≡ y ∷ ys → ⊥
+  no_start y ys us fails starts e = let bad : true ≡ false = sym (subst (StartsWell test) e starts) ∙ fails in cc
 
-  -- there is no first member, or it passes the test
-  abbrev pub StartsWell : List X → Type 0
-  StartsWell [] = Unit {0}
-  StartsWell (x ∷ xs) = test x ≡ true
-
-  no_start : (y : X) (ys us : List X) → test y ≡ false → StartsWell us → us ≡ y ∷ ys → ⊥
-  no_start y ys us fails starts e = let bad : true ≡ false = sym (subst StartsWell e starts) ∙ fails in cc
-
-  pub cut-same : (xs ys us vs : List X) → AllFail xs → AllFail ys → StartsWell us → StartsWell vs → xs ++ us ≡ ys ++ vs → (xs ≡ ys) × (us ≡ vs)
+  pub cut-same : (xs ys us vs : List X) → AllFail test xs → AllFail test ys → StartsWell test us → StartsWell test vs → xs ++ us ≡ ys ++ vs → (xs ≡ ys) × (us ≡ vs)
   cut-same [] [] us vs a b s t e = (refl, e)
   cut-same [] (y ∷ ys) us vs a b s t e = absurd (no_start y (ys ++ vs) us b.0 s e)
   cut-same (x ∷ xs) [] us vs a b s t e = absurd (no_start x (xs ++ us) vs a.0 t (sym e))
   cut-same (x ∷ xs) (y ∷ ys) us vs a b s t e =
       let more = cut-same xs ys us vs a.1 b.1 s t (rest-same x y (xs ++ us) (ys ++ vs) e) in
       (ap₂ (λ (z : X) (zs : List X). z ∷ zs) (first-same x y (xs ++ us) (ys ++ vs) e) more.0, more.1)
-
-abbrev pub is_no_digit : ℕ → Bool
-is_no_digit b = not (is_digit b)
 
 digit : (d : ℕ) → d < 10 → is_no_digit (48 + d) ≡ false
 digit d h = rw (le-leb 48 (48 + d) (omega arith), le-leb (48 + d) 57 (omega arith)) refl

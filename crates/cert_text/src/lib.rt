@@ -3,6 +3,7 @@
 #![tactic(auto)]
 
 pub mod laws;
+mod number_reading;
 mod numbers;
 mod source_lines;
 mod tail_lines;

@@ -133,6 +133,7 @@ fault-nothing_follows = inl (record {
 }) where
   rest : (l rest : List ℕ) (Q : Place) → HasForm for_version l Q → codes "certificate 1\n" ≡ l ++ 10 ∷ rest → [] ≡ rest
   rest l more Q version e = ap (λ (t : List ℕ). drop 14 t) e
+
   none : (m : ℕ) → ¬ IsWhole Place HasForm IsEnd for_version (codes "certificate 1\n") m
   none zero w = w.0
   none (suc zero) w = ends w.1 w.0 w.3 w.5.0 where

@@ -5,6 +5,7 @@
 pub mod laws;
 mod number_reading;
 mod numbers;
+mod numbers_reading;
 mod source_lines;
 mod tail_lines;
 mod writing;

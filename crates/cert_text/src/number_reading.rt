@@ -60,6 +60,7 @@ fn number(digits: &[u8]) -> Option<u16>
 /// The number at the front of a text, and what follows it, which no digit begins.
 pub(crate) fn front_number(text: &[u8]) -> Option<(u16, &[u8])>
     ensures some { IfSome result (λ x. text.now ≡ decimal x.0 ++ x.1.now) }
+    ensures small { IfSome result (λ x. x.0 < 65536) }
     ensures stops { IfSome result (λ x. StartsWell is_no_digit x.1.now) }
     ensures none { IfNone result ((n : ℕ) (rest : List ℕ) → n < 65536 → StartsWell is_no_digit rest → ¬ (text.now ≡ decimal n ++ rest)) }
 {

@@ -32,7 +32,7 @@ module _ (Place : Type 0) (HasForm : Place → List ℕ → Place → Type 0) (I
   Leads = line_by_line.Leads Place HasForm
 
   -- what follows a line that has its form is whole where all is
-  IsWhole-step : (P Q : Place) (l rest bytes : List ℕ) (m : ℕ) → HasForm P l Q → bytes ≡ l ++ 10 ∷ rest → IsWhole P bytes (suc m) → IsWhole Q rest m
+  pub IsWhole-step : (P Q : Place) (l rest bytes : List ℕ) (m : ℕ) → HasForm P l Q → bytes ≡ l ++ 10 ∷ rest → IsWhole P bytes (suc m) → IsWhole Q rest m
   IsWhole-step P Q l rest bytes m f e b =
       let parts = split-same 10 b.0 l b.2 rest (one_line b.3) (one_line f) (sym b.4 ∙ e) in
       let place : b.1 ≡ Q = one_place b.3 f parts.0 in

@@ -66,7 +66,7 @@ decimal-told m n us vs a b s t e =
 pub no-number : (n : ℕ) (us vs : List ℕ) → StartsWell is_no_digit us → StartsWell is_no_digit vs → us ≡ decimal n ++ vs → us ≡ vs
 no-number n us vs s t e = (cut-same is_no_digit [] (decimal n) us vs tt (AllFail-decimal n) s t e).1
 
-numbers-start : (ns : List ℕ) → StartsWell is_no_digit (numbers_text ns)
+pub numbers-start : (ns : List ℕ) → StartsWell is_no_digit (numbers_text ns)
 numbers-start [] = tt
 numbers-start (n ∷ ns) = refl
 

@@ -1,5 +1,5 @@
 -- A number is read from its digits, and from no others.
-use Rattle.std.proofs.Common.{◌≡◌, ◌<◌, ◌≤◌, ◌+◌, ◌-◌, ◌*◌, ◌^◌, ℕ, zero, suc, Bool, true, false, ◌&&◌, List, [], ◌∷◌, ◌++◌, get_or, drop, take, length, decimal, refl, ap, sym, subst, ◌∙◌, rules, drop-cons, arith}
+use Rattle.std.proofs.Common.{◌≡◌, ◌<◌, ◌≤◌, ◌+◌, ◌-◌, ◌*◌, ◌^◌, ℕ, zero, suc, Bool, true, false, ◌&&◌, List, [], ◌∷◌, ◌++◌, get_or, drop, take, length, decimal, refl, ap, sym, subst, ◌∙◌, rules, drop-cons, append_assoc, append-nil, arith}
 use Rattle.std.specs.Prelude.{not, ◌==◌, if◌then◌else◌}
 use Rattle.std.specs.List.{prefix_len}
 use Rattle.std.specs.Str.{all_ascii_digits}
@@ -10,7 +10,9 @@ use Rattle.std.proofs.lemmas.Str.Parse.{IsNumeralModel, numerals_by_fold}
 use borrow.Author.Tests.{eq-eqb, ne_eqb, eqb-true, eqb-false}
 use Rattle.answer_text.specs.Numbers.{is_digit}
 use Rattle.cert_text.specs.NumberFronts.{is_no_digit, AllFail, StartsWell, is_padded, read_on}
-use Rattle.cert_text.proofs.texts.NumberTexts.{cut-same, AllFail-decimal}
+use Rattle.cert_text.proofs.texts.NumberTexts.{cut-same, AllFail-decimal, decimal-told, numbers-start}
+use Rattle.pq_base.specs.Table.{AllBelow}
+use Rattle.cert_text.specs.CertificateText.{numbers_text}
 
 own : IsNumeralModel (λ ds. all_ascii_digits ds ≡ true) (read_on 0)
 own = numerals_by_fold _ (search rules) read_on (search rules)
@@ -88,3 +90,36 @@ pub no-front : (text digits rest : List ℕ) → text ≡ digits ++ rest → All
     → (n : ℕ) (more : List ℕ) → n < 65536 → StartsWell is_no_digit more → ¬ (text ≡ decimal n ++ more)
 no-front text digits rest e all stops none n more small starts h =
     none n small (cut-same is_no_digit digits (decimal n) rest more all (AllFail-decimal n) stops starts (sym e ∙ h)).0
+
+-- the numbers of a text, each behind a blank, where the rest of it is one of numbers
+abbrev pub LeavesNumbers : List ℕ → List ℕ → Type 0
+LeavesNumbers text rest = (ns : List ℕ) → AllBelow 65536 ns → text ≡ numbers_text ns → (ks : List ℕ) × AllBelow 65536 ks × (rest ≡ numbers_text ks)
+
+pub LeavesNumbers-next : (text rest more : List ℕ) (n : ℕ) → n < 65536 → StartsWell is_no_digit more → rest ≡ 32 ∷ (decimal n ++ more) → LeavesNumbers text rest → LeavesNumbers text more
+LeavesNumbers-next text rest more n small starts e leaves ns below same = by (leaves ns below same).0 (leaves ns below same).1 (leaves ns below same).2 where
+  by : (ks : List ℕ) → AllBelow 65536 ks → rest ≡ numbers_text ks → (ls : List ℕ) × AllBelow 65536 ls × (more ≡ numbers_text ls)
+  by [] b f = let bad : 32 ∷ (decimal n ++ more) ≡ [] = sym e ∙ f in cc
+  by (k ∷ ks) b f =
+      let parts = decimal-told n k more (numbers_text ks) small b.0 starts (numbers-start ks) (ap (λ (t : List ℕ). drop 1 t) (sym e ∙ f)) in
+      (ks, b.1, parts.1)
+
+pub LeavesNumbers-none : (text rest : List ℕ) → LeavesNumbers text rest → (rest ≡ [] → ⊥)
+    → ((n : ℕ) (more : List ℕ) → n < 65536 → StartsWell is_no_digit more → ¬ (rest ≡ 32 ∷ (decimal n ++ more)))
+    → (ns : List ℕ) → AllBelow 65536 ns → ¬ (text ≡ numbers_text ns)
+LeavesNumbers-none text rest leaves some none ns below same = by (leaves ns below same).0 (leaves ns below same).1 (leaves ns below same).2 where
+  by : (ks : List ℕ) → AllBelow 65536 ks → rest ≡ numbers_text ks → ⊥
+  by [] b f = some f
+  by (k ∷ ks) b f = none k (numbers_text ks) b.0 (numbers-start ks) f
+
+pub numbers_text-append : (ms ns : List ℕ) → numbers_text (ms ++ ns) ≡ numbers_text ms ++ numbers_text ns
+numbers_text-append [] ns = refl
+numbers_text-append (m ∷ ms) ns =
+    ap (λ (t : List ℕ). 32 ∷ (decimal m ++ t)) (numbers_text-append ms ns) ∙ ap (λ (t : List ℕ). 32 ∷ t) (sym (append_assoc (decimal m) (numbers_text ms) (numbers_text ns)))
+
+-- one number more was read
+pub numbers_text-next : (all rest more : List ℕ) (ns ms : List ℕ) (n : ℕ) → ms ≡ ns ++ n ∷ [] → rest ≡ 32 ∷ (decimal n ++ more) → numbers_text ns ++ rest ≡ all → numbers_text ms ++ more ≡ all
+numbers_text-next all rest more ns ms n pushed e so_far =
+    ap (λ (ks : List ℕ). numbers_text ks ++ more) pushed ∙ ap (λ (t : List ℕ). t ++ more) (numbers_text-append ns (n ∷ []))
+    ∙ append_assoc (numbers_text ns) (numbers_text (n ∷ [])) more
+    ∙ ap (λ (t : List ℕ). numbers_text ns ++ 32 ∷ (t ++ more)) (append-nil (decimal n))
+    ∙ ap (λ (t : List ℕ). numbers_text ns ++ t) (sym e) ∙ so_far

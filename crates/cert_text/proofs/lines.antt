@@ -1,4 +1,5 @@
 -- The lines of a certificate's text: which follows which, and that the places are told by them.
+pub mod CanonicalTexts
 pub mod CertificateLeads
 pub mod FaultSteps
 pub mod FormLaws

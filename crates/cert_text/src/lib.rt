@@ -2,6 +2,7 @@
 //! has its first fault, is said in `specs/`.
 #![tactic(auto)]
 
+mod canonical_reading;
 pub mod laws;
 mod number_reading;
 mod numbers;

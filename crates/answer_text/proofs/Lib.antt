@@ -15,7 +15,7 @@ mod RelationAppends
 mod AnswerRead
 mod GeneratorsRead
 mod RelationAdded
-mod DraftAdded
+pub mod DraftAdded
 mod BodyStart
 mod BodyAdded
 pub mod lines

@@ -1,6 +1,6 @@
 -- The text of the certificate that the dihedral group of order sixteen is the largest quotient of class 3 of the group of two
 -- involutions.
-use Rattle.std.proofs.Common.{◌≡◌, ◌≤◌, ℕ, zero, suc, ℤ, pos, List, [], ◌∷◌, ◌++◌, All, length, drop, codes, refl, ap, ◌∙◌, inl, inr, lit<, lit≤}
+use Rattle.std.proofs.Common.{◌≡◌, ◌≤◌, ℕ, zero, suc, ℤ, pos, List, [], ◌∷◌, ◌++◌, All, length, drop, codes, refl, ap, ◌∙◌, inl, lit<, lit≤}
 use Rattle.std.proofs.lemmas.List.Elements.{All-nil, All-cons}
 use Rattle.std.specs.Fmt.{digits}
 use Rattle.pq_base.proofs.vectors.LPresentations.{x_and_y, dihedral}

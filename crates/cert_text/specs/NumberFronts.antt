@@ -1,5 +1,5 @@
 -- Numbers at the front of a text, for the reader's own functions.
-use Rattle.std.specs.Prelude.{◌≡◌, ◌+◌, ◌-◌, ◌*◌, ◌==◌, ◌&&◌, ltb, length, ℕ, Bool, true, false, not, List, [], ◌∷◌}
+use Rattle.std.specs.Prelude.{◌≡◌, ◌+◌, ◌-◌, ◌*◌, ◌==◌, ◌&&◌, length, ℕ, Bool, true, false, not, List, [], ◌∷◌}
 use Rattle.answer_text.specs.Numbers.{is_digit}
 
 abbrev pub is_no_digit : ℕ → Bool

@@ -7,6 +7,8 @@ pub mod laws;
 mod number_reading;
 mod numbers;
 mod numbers_reading;
+mod overlap_reading;
+mod path_reading;
 mod source_lines;
 mod tail_lines;
 mod writing;

@@ -26,6 +26,7 @@ fn next_number(text: &[u8]) -> Option<(u16, &[u8])>
 /// The numbers of a text, each behind a blank.
 pub(crate) fn numbers(alloc: Global, text: &[u8]) -> Result<Option<Vec<u16>>, NoMemory>
     ensures some { IfOk result (λ o. IfSome o (λ ns. text.now ≡ numbers_text ns.items)) }
+    ensures small { IfOk result (λ o. IfSome o (λ ns. AllBelow 65536 ns.items)) }
     ensures none { IfOk result (λ o. IfNone o ((ns : List ℕ) → AllBelow 65536 ns → ¬ (text.now ≡ numbers_text ns))) }
 {
     let mut numbers = Vec::new(alloc);

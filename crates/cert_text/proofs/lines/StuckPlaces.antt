@@ -1,11 +1,10 @@
 -- Lines that haven't the form of a line in their place, place by place, and faults inside the answer.
-use Rattle.std.proofs.Common.{◌≡◌, ◌<◌, ◌≤◌, ◌+◌, ℕ, zero, suc, Bool, true, false, List, [], ◌∷◌, ◌++◌, length, refl, ap, sym, subst, ◌∙◌, append_assoc, append-nil, inl, inr, arith}
-use Rattle.std.specs.Prelude.{codes, reverse}
+use Rattle.std.proofs.Common.{◌≡◌, ◌≤◌, ℕ, zero, suc, Bool, true, false, List, [], ◌∷◌, ◌++◌, length, refl, ap, sym, subst, ◌∙◌, append_assoc, append-nil}
+use Rattle.std.specs.Prelude.{codes}
 use Rattle.std.specs.List.{AllByRecursion}
 use Rattle.pq_base.specs.LPresentation.{LPresentation}
 use Rattle.pq_base.specs.Limits.{max_class}
 use Rattle.pq_base.specs.Prime.{IsOffered}
-use Rattle.pq_base.specs.Lines.{text_of_lines}
 use Rattle.lpres_reader.specs.CanonicalText.{canonical_lines}
 use Rattle.answer_text.specs.AnswerPlaces as answers
 use Rattle.answer_text.specs.AnswerPlaces.{prime_line, class_line}

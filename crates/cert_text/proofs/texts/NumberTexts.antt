@@ -1,11 +1,10 @@
 -- Decimal numbers are told apart by what no digit follows, and so are lists of them.
 use Rattle.std.proofs.Common.{◌≡◌, ◌<◌, ◌+◌, ◌%◌, ◌/◌, ℕ, zero, suc, Bool, true, false, List, [], ◌∷◌, ◌++◌, drop, decimal, refl, ap, ap₂, sym, subst, ◌∙◌, arith}
-use Rattle.std.specs.Prelude.{not, ◌==◌, if◌then◌else◌}
+use Rattle.std.specs.Prelude.{◌==◌, if◌then◌else◌}
 use Rattle.std.proofs.lemmas.Bool.{le-leb, lt-ltb}
 use Rattle.std.proofs.lemmas.Fmt.{decimal_injective}
 use Rattle.std.specs.Fmt.{digits, digits_onto, digit_glyph}
 use Rattle.pq_base.specs.Table.{AllBelow}
-use Rattle.answer_text.specs.Numbers.{is_digit}
 use Rattle.answer_text.proofs.Splits.{first-same, rest-same, avoids, avoids-append, avoids-cons}
 pub use Rattle.cert_text.specs.NumberFronts.{is_no_digit, AllFail, StartsWell}
 use Rattle.cert_text.specs.CertificateText.{numbers_text}

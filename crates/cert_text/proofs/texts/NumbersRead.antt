@@ -1,13 +1,13 @@
 -- A number is read from its digits, and from no others.
-use Rattle.std.proofs.Common.{◌≡◌, ◌<◌, ◌≤◌, ◌+◌, ◌-◌, ◌*◌, ◌^◌, ℕ, zero, suc, Bool, true, false, ◌&&◌, List, [], ◌∷◌, ◌++◌, get_or, drop, take, length, decimal, refl, ap, sym, subst, ◌∙◌, rules, drop-cons, append_assoc, append-nil, arith}
+use Rattle.std.proofs.Common.{◌≡◌, ◌<◌, ◌≤◌, ◌+◌, ◌-◌, ◌*◌, ℕ, zero, suc, Bool, true, false, ◌&&◌, List, [], ◌∷◌, ◌++◌, get_or, drop, take, length, decimal, refl, ap, sym, subst, ◌∙◌, rules, drop-cons, append_assoc, append-nil, arith}
 use Rattle.std.specs.Prelude.{not, ◌==◌, if◌then◌else◌}
 use Rattle.std.specs.List.{prefix_len}
 use Rattle.std.specs.Str.{all_ascii_digits}
 use Rattle.std.specs.Char.{is_ascii_digit}
-use Rattle.std.proofs.lemmas.Bool.{and_from, and_parts, leb-true}
+use Rattle.std.proofs.lemmas.Bool.{and_from}
 use Rattle.std.proofs.lemmas.Fmt.{decimal_digit, decimal-digits_value, digits_value-decimal, first_decimal, decimal_nonempty}
 use Rattle.std.proofs.lemmas.Str.Parse.{IsNumeralModel, numerals_by_fold}
-use borrow.Author.Tests.{eq-eqb, ne_eqb, eqb-true, eqb-false}
+use borrow.Author.Tests.{eq-eqb, ne_eqb, eqb-true}
 use Rattle.answer_text.specs.Numbers.{is_digit}
 use Rattle.cert_text.specs.NumberFronts.{is_no_digit, AllFail, StartsWell, is_padded, read_on}
 use Rattle.cert_text.proofs.texts.NumberTexts.{cut-same, AllFail-decimal, decimal-told, numbers-start}
@@ -123,3 +123,16 @@ numbers_text-next all rest more ns ms n pushed e so_far =
     ∙ append_assoc (numbers_text ns) (numbers_text (n ∷ [])) more
     ∙ ap (λ (t : List ℕ). numbers_text ns ++ 32 ∷ (t ++ more)) (append-nil (decimal n))
     ∙ ap (λ (t : List ℕ). numbers_text ns ++ t) (sym e) ∙ so_far
+
+pub AllBelow-next : (ns : List ℕ) (n : ℕ) → AllBelow 65536 ns → n < 65536 → AllBelow 65536 (ns ++ n ∷ [])
+AllBelow-next [] n h small = (small, tt)
+AllBelow-next (m ∷ ns) n h small = (h.0, AllBelow-next ns n h.1 small)
+
+pub AllBelow-at : (p : ℕ) (ns : List ℕ) (i : ℕ) → AllBelow p ns → i < length ns → get_or ns i 0 < p
+AllBelow-at p [] i h inside = absurd (omega arith)
+AllBelow-at p (n ∷ ns) zero h inside = h.0
+AllBelow-at p (n ∷ ns) (suc i) h inside = AllBelow-at p ns i h.1 (omega arith)
+
+pub AllBelow-wider : (ns : List ℕ) → AllBelow 256 ns → AllBelow 65536 ns
+AllBelow-wider [] h = tt
+AllBelow-wider (n ∷ ns) h = (omega (arith, h.0), AllBelow-wider ns h.1)

@@ -29,7 +29,7 @@ each-below m (e ∷ s) few h =
     (one_of-below m e few parts.0, each-below m s few parts.1)
 
 -- the numbers of an overlap
-abbrev overlap_numbers : Overlap → List ℕ
+abbrev pub overlap_numbers : Overlap → List ℕ
 overlap_numbers (Triple k j i) = k ∷ j ∷ i ∷ []
 overlap_numbers (Left j i) = j ∷ i ∷ []
 overlap_numbers (Right j i) = j ∷ i ∷ []
@@ -40,7 +40,7 @@ two-below j i h =
     let parts = and_parts (is_number_from 1 j) (is_number_from 1 i) h in
     (number-below 1 j parts.0, (number-below 1 i parts.1, tt))
 
-overlap-below : (o : Overlap) → is_written_overlap o ≡ true → AllBelow greatest (overlap_numbers o)
+pub overlap-below : (o : Overlap) → is_written_overlap o ≡ true → AllBelow greatest (overlap_numbers o)
 overlap-below (Triple k j i) h =
     let parts = and_parts (is_number_from 1 k) (is_number_from 1 j && is_number_from 1 i) h in
     (number-below 1 k parts.0, two-below j i parts.1)

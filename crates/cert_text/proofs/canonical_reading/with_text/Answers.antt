@@ -1,5 +1,4 @@
-use Rattle.std.proofs.Common.{◌≡◌, ℕ, List, true, false, sym, ap, ◌∙◌}
-use Rattle.pq_base.specs.LPresentation.{LPresentation}
+use Rattle.std.proofs.Common.{◌≡◌, true, false, sym, ◌∙◌}
 use Rattle.cert_text.proofs.lines.CanonicalTexts.{not-canonical-other}
 use Rattle.cert_text.proofs.canonical_reading.with_text.Goals as goal
 

@@ -1,7 +1,5 @@
 use Rattle.std.proofs.Common.{◌≡◌, ◌++◌, ℕ, List, take, drop, sym, ap, subst, ◌∙◌}
 use Rattle.std.proofs.lemmas.List.{take-append-drop}
-use Rattle.std.specs.List.{prefix_len}
-use Rattle.answer_text.specs.Numbers.{is_digit}
 use Rattle.cert_text.specs.NumberFronts.{is_no_digit, AllFail, StartsWell}
 use Rattle.cert_text.proofs.texts.NumbersRead.{front-digits, front-stops, no-front}
 use Rattle.cert_text.proofs.number_reading.front_number.Goals as goal

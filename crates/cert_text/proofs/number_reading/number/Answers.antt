@@ -1,4 +1,4 @@
-use Rattle.std.proofs.Common.{◌≡◌, ◌≤◌, ◌<◌, ℕ, true, false, length, sym, ap, ◌∙◌, arith}
+use Rattle.std.proofs.Common.{◌≡◌, true, false, sym, ap, ◌∙◌, arith}
 use Rattle.std.proofs.lemmas.List.{drop_all}
 use Rattle.cert_text.specs.NumberFronts.{is_padded, read_on}
 use Rattle.cert_text.proofs.texts.NumbersRead.{decimal-read, not-padded, too_large, read-next}

@@ -7,6 +7,7 @@ use Rattle.cert_text.proofs.numbers_reading.numbers.Given as goal
 abbrev pub invariant-loop-rest : goal.invariant-loop-rest
 invariant-loop-rest l = record {
   read : numbers_text l.numbers.items ++ l.rest ≡ l.fn.text;
+  small : AllBelow 65536 l.numbers.items;
   left : (ns : List ℕ) → AllBelow 65536 ns → l.fn.text ≡ numbers_text ns → (ks : List ℕ) × AllBelow 65536 ks × (l.rest ≡ numbers_text ks);
 }
 

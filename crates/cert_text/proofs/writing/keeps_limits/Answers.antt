@@ -1,4 +1,3 @@
-use Rattle.std.proofs.Common.{◌≡◌}
 use Rattle.cert_text.proofs.Limits.{IsWritable-parts}
 use Rattle.cert_text.proofs.writing.keeps_limits.Goals as goal
 

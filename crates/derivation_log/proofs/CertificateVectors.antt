@@ -1,18 +1,16 @@
 -- The certificate that the dihedral group of order sixteen is the largest quotient of class 3 of the group of two involutions: what its
 -- steps build, the rows and the sums of its last step, and the parts that are judged.
-use Rattle.std.proofs.Common.{◌≡◌, ◌<◌, ℕ, zero, suc, ℤ, pos, List, [], ◌∷◌, length, refl, map, arith}
-use Rattle.std.specs.List.{All}
+use Rattle.std.proofs.Common.{◌≡◌, pos, [], ◌∷◌, refl}
 use Rattle.pq_base.specs.LPresentation.{LPresentation}
-use Rattle.pq_base.specs.Answer.Definition.{image, commutator, power}
+use Rattle.pq_base.specs.Answer.Definition.{commutator, power}
 use Rattle.pq_base.proofs.vectors.LPresentations.{x_and_y}
 use Rattle.pq_base.proofs.vectors.Answers.{answer_of_order_eight, answer_of_order_sixteen}
 use Rattle.pc_presentation.specs.declared.overlap.Overlap.TheVariants.{Left, Right}
 use Rattle.cover_quotient.specs.Stages.{full_cover_of}
 use Rattle.derivation_log.specs.declared.source.Run.TheVariants.{Whole}
 use Rattle.derivation_log.specs.declared.source.RowSource.TheVariants.{Test, Fixed}
-use Rattle.derivation_log.specs.Certificates.{TailLine, StepLines, Certificate}
+use Rattle.derivation_log.specs.Certificates.{StepLines, Certificate}
 use Rattle.derivation_log.specs.CertificateRuns.{answer_after, cover_at, kept_at}
-use Rattle.derivation_log.specs.CertificateParts.{IsSumOfRows}
 
 abbrev two_involutions : LPresentation
 two_involutions = record { names = x_and_y; fixed = (pos 1 ∷ pos 1 ∷ []) ∷ (pos 2 ∷ pos 2 ∷ []) ∷ []; iterated = []; endos = [] }
@@ -53,7 +51,8 @@ kept_second = refl
 after_two : answer_after full_cover_of of_two_involutions Whole 2 ≡ answer_of_order_eight
 after_two = refl
 
-third_sources : (cover_at full_cover_of of_two_involutions Whole 3).sources ≡ commutator 3 1 ∷ commutator 3 2 ∷ power 3 ∷ power 1 ∷ power 2 ∷ []
+third_sources : (cover_at full_cover_of of_two_involutions Whole 3).sources
+    ≡ commutator 3 1 ∷ commutator 3 2 ∷ power 3 ∷ power 1 ∷ power 2 ∷ []
 third_sources = refl
 
 after_three : answer_after full_cover_of of_two_involutions Whole 3 ≡ answer_of_order_sixteen

@@ -1,10 +1,8 @@
 -- The parts of a certificate are judged in order, so the first that fails is one, and there is none where all pass.
-use Rattle.std.proofs.Common.{◌≡◌, ◌<◌, ℕ, zero, suc, List, [], ◌∷◌, ◌++◌, get_or, drop, length, sym, ◌∙◌, ap, subst, arith}
+use Rattle.std.proofs.Common.{◌≡◌, suc, List, [], ◌∷◌, ◌++◌, get_or, drop, sym, ◌∙◌, ap, subst, arith}
 use Rattle.std.specs.List.{All}
-use Rattle.std.proofs.lemmas.List.{length-append}
-use Rattle.derivation_log.specs.Certificates.{Certificate}
 use Rattle.derivation_log.specs.CertificateParts.{CertificateKind, full_kind}
-use Rattle.derivation_log.specs.Validity.{Trial, Passes, IsValid, FirstPart, trials}
+use Rattle.derivation_log.specs.Validity.{Trial, Passes}
 use Rattle.derivation_log.specs.CertificateLaws.{ValidCertificatesHaveNoFirstPart, FirstPartsAreUnique}
 
 module _ {X : Type 0} (P : X → Type 0) where

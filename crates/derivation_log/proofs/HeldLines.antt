@@ -1,12 +1,13 @@
 -- Where the lines of a step are put behind those of the steps before it, the lists of steps that have these lines have that step, or
 -- another with the same lines, at their end.
-use Rattle.std.proofs.Common.{◌≡◌, ℕ, List, [], ◌∷◌, ◌++◌, get_or, drop, map, refl, ap, ap₂, sym, ◌∙◌, subst}
+use Rattle.std.proofs.Common.{◌≡◌, List, [], ◌∷◌, ◌++◌, ap, sym, ◌∙◌, subst}
 use Rattle.std.proofs.lemmas.List.{map-append}
 use Rattle.fp_echelon.specs.Basis.{Echelon, IsBasis}
 use Rattle.derivation_log.specs.declared.source.RowSource.{RowSource}
 use Rattle.derivation_log.specs.HeldSteps.{HeldStep, told_step, held_basis, KeepsOneMore}
 use Rattle.derivation_log.specs.Certificates.{StepLines}
-use Rattle.derivation_log.specs.HeldLines.{held_lines, IsTold, AreTold, LinesOfRuns, AreLinesOf, HoldsLines}
+use Rattle.derivation_log.proofs.HeldRuns.{last-step}
+use Rattle.derivation_log.specs.HeldLines.{held_lines, IsTold, AreTold, AreLinesOf}
 
 -- the basis, whatever room it has
 pub held-basis : (B : Echelon) (sources : List RowSource) → IsBasis B → IsBasis (held_basis (told_step sources B))
@@ -18,21 +19,6 @@ held-basis B sources is = record {
   sums = is.sums;
   spanned = is.spanned;
 }
-
--- the last step of those with some values
-pub last-step : {X : Type 0} (f : HeldStep → X) (xs : List X) (x : X) (steps : List HeldStep) → xs ++ x ∷ [] ≡ map f steps
-    → (earlier : List HeldStep) × (last : HeldStep) × (xs ≡ map f earlier) × (steps ≡ earlier ++ last ∷ [])
-last-step f [] x [] e = cc
-last-step f [] x (s ∷ []) e = ([], s, refl, refl)
-last-step f [] x (s ∷ t ∷ steps) e = cc
-last-step f (y ∷ xs) x [] e = cc
-last-step {X} f (y ∷ xs) x (s ∷ steps) e =
-    let rest = last-step f xs x steps (ap (drop 1) e) in (
-      s ∷ rest.0,
-      rest.1,
-      ap₂ (λ (z : X) (zs : List X). z ∷ zs) (ap (λ (zs : List X). get_or zs 0 y) e) rest.2,
-      ap (λ (ts : List HeldStep). s ∷ ts) rest.3,
-    )
 
 AreTold-push : (steps : List HeldStep) (s : HeldStep) → AreTold steps → IsTold s → AreTold (steps ++ s ∷ [])
 AreTold-push [] s all one = (one, tt)
@@ -61,23 +47,4 @@ lines-one_more before after s told e = record {
         record { are = rest.2; told = AreTold-front rest.0 rest.1 (subst AreTold rest.3 h.told) },
         rest.3,
       );
-}
-
--- a log with the lines of one step more
-pub holds-iterated : (l : LinesOfRuns) (after : List StepLines) (s : HeldStep) → HoldsLines l → IsTold s
-    → after ≡ l.iterated ++ held_lines s ∷ [] → HoldsLines (record { iterated = after; whole = l.whole })
-holds-iterated l after s holds told e = record {
-  iterated = holds.iterated ++ s ∷ [];
-  whole = holds.whole;
-  iterated_lines = (lines-one_more l.iterated after s told e).appended holds.iterated holds.iterated_lines;
-  whole_lines = holds.whole_lines;
-}
-
-pub holds-whole : (l : LinesOfRuns) (after : List StepLines) (s : HeldStep) → HoldsLines l → IsTold s
-    → after ≡ l.whole ++ held_lines s ∷ [] → HoldsLines (record { iterated = l.iterated; whole = after })
-holds-whole l after s holds told e = record {
-  iterated = holds.iterated;
-  whole = holds.whole ++ s ∷ [];
-  iterated_lines = holds.iterated_lines;
-  whole_lines = (lines-one_more l.whole after s told e).appended holds.whole holds.whole_lines;
 }

@@ -1,6 +1,5 @@
 -- Pairs of numbers and coefficients, and lines of pivots, grow by one at the end.
-use Rattle.std.proofs.Common.{◌≡◌, ℕ, ◌+◌, Bool, true, cond, List, [], ◌∷◌, ◌++◌, map, filter, ap, sym, ◌∙◌, append-nil}
-use Rattle.std.specs.List.{flat_map}
+use Rattle.std.proofs.Common.{◌≡◌, ℕ, ◌+◌, Bool, cond, List, [], ◌∷◌, ◌++◌, map, filter, ap, sym, ◌∙◌, append-nil}
 use Rattle.std.proofs.lemmas.Bool.{false_from_ne_true}
 use Rattle.std.proofs.lemmas.List.{map-append}
 use Rattle.std.proofs.lemmas.List.Elements.{filter-append}
@@ -10,7 +9,6 @@ use Rattle.pq_base.proofs.NumberLists.{numbers-more}
 use Rattle.fp_echelon.specs.Reduced.{BasisRow, pivots_of, IsPivot}
 use Rattle.cover_quotient.specs.Kept.{is_listed}
 use Rattle.cover_quotient.proofs.kept_tails.KeptColumns.{listed_pivot, pivot_listed}
-use Rattle.derivation_log.specs.Certificates.{TailLine}
 use Rattle.derivation_log.specs.HeldLines.{pair_unless_zero, pairs_of, tail_line, tail_lines, pivot_columns}
 
 pub pairs-more : (f : ℕ → ℕ) (n : ℕ)

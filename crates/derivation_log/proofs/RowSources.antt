@@ -1,6 +1,6 @@
 -- The word of the row of a source is joined to the value of the word of the source, which is a relator, or the empty word of an
 -- overlap. So the row is justified wherever that word has value 0.
-use Rattle.std.proofs.Common.{◌≡◌, ◌≤◌, ◌-◌, ℕ, zero, suc, ℤ, List, [], ◌∷◌, ◌++◌, get_or, length, refl, ap, sym, ◌∙◌, subst, arith, inr}
+use Rattle.std.proofs.Common.{◌≡◌, ◌≤◌, ◌-◌, ℕ, zero, suc, ℤ, List, [], ◌∷◌, ◌++◌, get_or, length, refl, ap, sym, subst, arith, inr}
 use Rattle.pq_base.specs.SignedWord.{sub, HasLetters}
 use Rattle.pq_base.specs.LPresentation.{LPresentation, IsLPresentation, IsRelator, AreEndos}
 use Rattle.pq_base.specs.LPresentation.IsRelator.{fixed_relator, iterated_relator}
@@ -25,7 +25,7 @@ use Rattle.p_cover.proofs.ImagesAlong.{row_along-joined}
 use Rattle.cover_quotient.specs.Fits.{IsJustified}
 use Rattle.derivation_log.specs.declared.source.RowSource.{RowSource}
 use Rattle.derivation_log.specs.declared.source.RowSource.TheVariants.{Test, Fixed, Iterated}
-use Rattle.derivation_log.specs.RowSources.{AreSourceNumbers, source_word, IsRowOfOverlap, IsRowAlong, IsRowOf, AreRowsOf}
+use Rattle.derivation_log.specs.RowSources.{AreSourceNumbers, source_word, IsRowOfOverlap, IsRowOf, AreRowsOf}
 
 pub source_word-letters : (L : LPresentation) → IsLPresentation L → (s : RowSource) → HasLetters (length L.names) (source_word L s)
 source_word-letters L is (Test o) = tt

@@ -1,12 +1,10 @@
 -- A certificate that is valid: that the group of order two is the largest quotient of class 3 of the group of one involution. Its
 -- second step keeps no tail, so there is no third. Behind it changes after which it isn't valid.
-use Rattle.std.proofs.Common.{◌≡◌, ◌≢◌, ◌<◌, ◌≤◌, ◌-◌, ℕ, zero, suc, ℤ, pos, List, [], ◌∷◌, ◌++◌, get_or, length, refl, ap, sym, subst, map, arith, lit<, lit≤, inl, inr}
-use Rattle.std.specs.List.{All, AllZip}
+use Rattle.std.proofs.Common.{◌≡◌, ◌≢◌, ◌<◌, ◌≤◌, ◌-◌, ℕ, zero, suc, pos, List, [], ◌∷◌, ◌++◌, get_or, length, refl, ap, sym, subst, arith, lit<, lit≤, inl, inr}
+use Rattle.std.specs.List.{All}
 use Rattle.std.proofs.lemmas.List.Elements.{All-nil, All-cons, All-append}
 use Rattle.pq_base.specs.Limits.{max_rank}
 use Rattle.pq_base.specs.Prime.{IsOffered}
-use Rattle.pq_base.specs.LPresentation.{LPresentation}
-use Rattle.pq_base.specs.Presentation.{IsNormal}
 use Rattle.pq_base.specs.Answer.{Answer, Definition as Source, IsAnswer}
 use Rattle.pq_base.specs.Answer.Definition.{image, power}
 use Rattle.pq_base.proofs.vectors.Tests.{unequal}
@@ -15,14 +13,11 @@ use Rattle.pq_base.proofs.vectors.Answers.{answer_of_order_two, order_two_is_ans
 use Rattle.pc_presentation.specs.Relation.{IsTail}
 use Rattle.pc_presentation.specs.Pcp.{IsTailedPresentation}
 use Rattle.pc_presentation.specs.Rowed.{RowedPresentation, without_rows}
-use Rattle.pc_presentation.specs.Collection.{State, IsState, identity, plain_push_from, plain_push}
+use Rattle.pc_presentation.specs.Collection.{IsState, identity, plain_push_from, plain_push}
 use Rattle.pc_presentation.specs.Overlaps.{AgreesPlainly}
 use Rattle.pc_presentation.specs.Overlaps.Overlap.{own}
-use Rattle.pc_presentation.specs.declared.overlap.Overlap.{Overlap}
 use Rattle.pc_presentation.specs.declared.overlap.Overlap.TheVariants.{Triple, Left, Right, Own}
-use Rattle.pc_presentation.specs.OverlapNumbers.{AreOverlapNumbers, overlap_of}
 use Rattle.pc_presentation.specs.Arithmetic.{AreImages, product_by}
-use Rattle.pc_presentation.specs.ImageElements.{AreImageElements}
 use Rattle.pc_presentation.specs.Tailed.{Element, IsElement, rowed_presentation}
 use Rattle.pc_presentation.proofs.presentations.RelationTables.{per_relation-shape}
 use Rattle.p_cover.specs.Sources.{place_in, relation_source}
@@ -61,6 +56,19 @@ of_involution = record {
 -- the certificate with any answer
 abbrev with_answer : Answer → Certificate
 with_answer A = record of_involution { answer = A }
+
+-- the cover of the first step: the image of x has the one tail
+abbrev first_cover : CoverOf
+first_cover = cover_at full_cover_of of_involution Whole 1
+
+abbrev first_step : StepLines
+first_step = record { sources = []; tails = [] }
+
+abbrev the_line : TailLine
+the_line = record { tail = 1; kept = []; sums = (1, 1) ∷ [] }
+
+abbrev second_step : StepLines
+second_step = record { sources = Fixed 1 ∷ []; tails = the_line ∷ [] }
 
 -- the cover of the second step: a1^2 has the one tail
 abbrev second_cover : CoverOf
@@ -192,9 +200,6 @@ tested_at : (k : ℕ) (d : RowSource) → k < 1 → IsTestedSource (full_kind.te
 tested_at zero d l = tt
 tested_at (suc k) d l = absurd (omega (arith, l))
 
-abbrev the_line : TailLine
-the_line = record { tail = 1; kept = []; sums = (1, 1) ∷ [] }
-
 line_at : (k : ℕ) (d : TailLine) → k < 1 → IsSumOfRows second_cover ((1 ∷ []) ∷ []) (get_or (the_line ∷ []) k d)
 line_at zero d l = record { in_range = lit≤ tt; sum = refl }
 line_at (suc k) d l = absurd (omega (arith, l))
@@ -202,34 +207,39 @@ line_at (suc k) d l = absurd (omega (arith, l))
 nothing : {X : Type 0} (P : X → Type 0) → All P []
 nothing P = All-nil P
 
-first_rank : GiveAnswer full_kind (cover_at full_cover_of of_involution Whole 1) (record { sources = []; tails = [] })
-first_rank = record { limit = lit≤ tt; may_keep = All-cons (full_kind.may_keep (cover_at full_cover_of of_involution Whole 1).answer) (image 1) [] tt (nothing (full_kind.may_keep (cover_at full_cover_of of_involution Whole 1).answer)) }
+first_rank : GiveAnswer full_kind first_cover first_step
+first_rank = record {
+  limit = lit≤ tt;
+  may_keep = All-cons (full_kind.may_keep first_cover.answer) (image 1) [] tt (nothing (full_kind.may_keep first_cover.answer));
+}
 
 -- the trial of a part of the run
 abbrev trial : ℕ → Part → Trial
 trial k p = record { run = Whole; class = k; part = p }
 
-first_rows : HavePlainRows full_kind of_involution.presentation (cover_at full_cover_of of_involution Whole 1) (record { sources = []; tails = [] })
+first_rows : HavePlainRows full_kind of_involution.presentation first_cover first_step
 first_rows = record { rows = λ k d l. absurd (omega (arith, l)); tested = λ k d l. absurd (omega (arith, l)) }
 
-first_sums : AreSumsOfRows of_involution.presentation (cover_at full_cover_of of_involution Whole 1) (record { sources = []; tails = [] })
+first_sums : AreSumsOfRows of_involution.presentation first_cover first_step
 first_sums = record { rows = []; are = tt; lines = λ k d l. absurd (omega (arith, l)) }
 
-second_rows : HavePlainRows full_kind of_involution.presentation second_cover (record { sources = Fixed 1 ∷ []; tails = the_line ∷ [] })
+second_rows : HavePlainRows full_kind of_involution.presentation second_cover second_step
 second_rows = record {
   rows = All-cons (HasPlainRow of_involution.presentation second_cover) (Fixed 1) [] (record { row = 1 ∷ []; is = fixed_row })
       (nothing (HasPlainRow of_involution.presentation second_cover));
   tested = tested_at;
 }
 
-second_sums : AreSumsOfRows of_involution.presentation second_cover (record { sources = Fixed 1 ∷ []; tails = the_line ∷ [] })
+second_sums : AreSumsOfRows of_involution.presentation second_cover second_step
 second_sums = record { rows = (1 ∷ []) ∷ []; are = (fixed_row, tt); lines = line_at }
 
-second_rank : GiveAnswer full_kind second_cover (record { sources = Fixed 1 ∷ []; tails = the_line ∷ [] })
+second_rank : GiveAnswer full_kind second_cover second_step
 second_rank = record { limit = lit≤ tt; may_keep = λ k d l. absurd (omega (arith, l)) }
 
 fixed_trivial : AreCarriedToIdentity answer_of_order_two ((pos 1 ∷ pos 1 ∷ []) ∷ [])
-fixed_trivial = All-cons (IsCarriedToIdentity answer_of_order_two) (pos 1 ∷ pos 1 ∷ []) [] square_of_image (nothing (IsCarriedToIdentity answer_of_order_two))
+fixed_trivial =
+    All-cons (IsCarriedToIdentity answer_of_order_two) (pos 1 ∷ pos 1 ∷ []) [] square_of_image
+    (nothing (IsCarriedToIdentity answer_of_order_two))
 
 -- the parts that are judged but for the last
 abbrev twelve : List Trial

@@ -1,7 +1,7 @@
 -- What the parts of a certificate have to keep so that it has a text: numbers that are in range and rise, coefficients that aren't 0,
 -- and lines that name tails without a line and sources of their step.
 -- From: this project's own text of certificates.
-use Rattle.std.specs.Prelude.{◌≡◌, ◌≤◌, ◌⊎◌, ℕ, zero, suc, Bool, true, false, not, leb, ltb, ◌&&◌, List, [], ◌∷◌, length, map}
+use Rattle.std.specs.Prelude.{◌≡◌, ◌≤◌, ◌⊎◌, ℕ, suc, Bool, true, false, not, leb, ltb, ◌&&◌, List, [], ◌∷◌, length, map}
 use Rattle.pq_base.specs.Limits.{max_class}
 use Rattle.pq_base.specs.LPresentation.{LPresentation}
 use Rattle.pq_base.specs.Answer.{Answer}

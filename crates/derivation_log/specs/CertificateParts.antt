@@ -19,12 +19,11 @@ use Rattle.cover_quotient.specs.Defining.{MayBeKept}
 use Rattle.cover_quotient.specs.Stages.{full_cover_of}
 use Rattle.derivation_log.specs.declared.source.RowSource.{RowSource}
 use Rattle.derivation_log.specs.declared.source.Run.{Run}
-use Rattle.derivation_log.specs.declared.source.Run.TheVariants.{Iterated, Whole}
 use Rattle.derivation_log.specs.RowSources.{IsRowOf, AreRowsOf}
 use Rattle.derivation_log.specs.HeldRuns.{IsTestedSource}
-use Rattle.derivation_log.specs.Certificates.{TailLine, StepLines, Certificate, steps_of, step_of, presentation_of}
-use Rattle.derivation_log.specs.CertificateRuns.{row_of_pairs, kept_in, kept_sources_in, answer_after, cover_at, kept_at}
-use Rattle.derivation_log.specs.PlainValues.{IsCarriedToIdentity, MakeMap, InducesPlainly, images_of}
+use Rattle.derivation_log.specs.Certificates.{TailLine, StepLines, Certificate, steps_of}
+use Rattle.derivation_log.specs.CertificateRuns.{row_of_pairs, kept_in, kept_sources_in, answer_after, kept_at}
+use Rattle.derivation_log.specs.PlainValues.{IsCarriedToIdentity}
 
 -- what the version of a certificate decides: the cover of a step, the overlaps that a step may name, the sources whose tails it may
 -- keep, and the overlaps that are judged after the last step

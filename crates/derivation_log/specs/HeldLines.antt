@@ -1,8 +1,9 @@
 -- The lines of a certificate that a held step gives: a line for each pivot of its basis, which says the basis row. A log that keeps
 -- lines keeps each list of steps that they are the lines of.
 -- From: Gaussian elimination of tails in Newman and O'Brien's p-quotient method.
-use Rattle.std.specs.Prelude.{◌≡◌, ◌≤◌, ℕ, zero, suc, cond, eqb, List, [], ◌∷◌, length, map, filter}
+use Rattle.std.specs.Prelude.{◌≡◌, ◌≤◌, ℕ, zero, suc, true, cond, eqb, List, [], ◌∷◌, length, map, filter}
 use Rattle.std.specs.List.{flat_map}
+use Rattle.pq_base.specs.LPresentation.{LPresentation}
 use Rattle.pq_base.specs.Canonical.{numbers_from}
 use Rattle.fp_rows.specs.Row.{at_column}
 use Rattle.fp_echelon.specs.Reduced.{BasisRow, pivots_of, at_pivot}
@@ -13,7 +14,7 @@ use Rattle.derivation_log.specs.declared.source.Run.{Run}
 use Rattle.derivation_log.specs.declared.source.Run.TheVariants.{Iterated, Whole}
 use Rattle.derivation_log.specs.HeldSteps.{HeldStep, held_basis}
 use Rattle.derivation_log.specs.Certificates.{TailLine, StepLines}
-use Rattle.derivation_log.specs.CertificateForms.{max_number}
+use Rattle.derivation_log.specs.CertificateForms.{max_number, are_sources_in}
 
 -- a number with its coefficient, unless that is 0
 abbrev pub pair_unless_zero : ℕ → ℕ → List (ℕ × ℕ)
@@ -76,9 +77,17 @@ pub record AreLinesOf (lines : List StepLines) (steps : List HeldStep) : Type 0 
 abbrev pub KeepsLines : LinesOfRuns → Run → List HeldStep → Type 0
 KeepsLines l run steps = AreLinesOf (lines_of l run) steps
 
--- there are such steps
-pub record HoldsLines (l : LinesOfRuns) : Type 0 where
-  pub iterated : List HeldStep
-  pub whole : List HeldStep
-  pub iterated_lines : AreLinesOf l.iterated iterated
-  pub whole_lines : AreLinesOf l.whole whole
+-- a step with this prime, whose sources may be named in the run
+pub record FitsCertificate (L : LPresentation) (p : ℕ) (run : Run) (s : HeldStep) : Type 0 where
+  pub prime : s.prime ≡ p
+  pub sources : are_sources_in L run s.sources ≡ true
+
+abbrev pub FitCertificate : LPresentation → ℕ → Run → List HeldStep → Type 0
+FitCertificate L p run [] = Unit {0}
+FitCertificate L p run (s ∷ ss) = FitsCertificate L p run s × FitCertificate L p run ss
+
+-- such steps are kept
+pub record HoldsFitting (L : LPresentation) (p : ℕ) (run : Run) (keeps : List HeldStep → Type 0) : Type 0 where
+  pub steps : List HeldStep
+  pub kept : keeps steps
+  pub fit : FitCertificate L p run steps

@@ -7,6 +7,8 @@ pub mod CertificateRuns
 pub mod PlainValues
 pub mod CertificateParts
 pub mod Validity
+pub mod ValidParts
 pub mod CertificateLaws
 pub mod CertificateForms
 pub mod HeldLines
+pub mod HeldLineLaws

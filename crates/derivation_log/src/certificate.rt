@@ -35,7 +35,8 @@ impl Model for Cert {
 
     ghost view = { λ c. certificate_of c.version c.pres (prime_value c.prime) c.asked c.iterated.items c.whole.items c.answer };
 
-    ghost invariant = { λ c. IsCertificate (certificate_of c.version c.pres (prime_value c.prime) c.asked c.iterated.items c.whole.items c.answer) };
+    ghost invariant = { λ c. IsCertificate (
+        certificate_of c.version c.pres (prime_value c.prime) c.asked c.iterated.items c.whole.items c.answer) };
 }
 
 impl Cert {
@@ -50,7 +51,8 @@ impl Cert {
         answer: Answer,
     ) -> Option<Cert>
         ensures some { IfSome result (λ c. c ≡ first_version pres (prime_value prime) asked iterated.items whole.items answer) }
-        ensures conditions { OnSome result (IsCertificate (first_version pres (prime_value prime) asked iterated.items whole.items answer)) }
+        ensures conditions { OnSome result (
+            IsCertificate (first_version pres (prime_value prime) asked iterated.items whole.items answer)) }
         ensures none { IfNone result (¬ IsCertificate (first_version pres (prime_value prime) asked iterated.items whole.items answer)) }
     {
         if !are_parts(&pres, prime, asked, &iterated, &whole, &answer) {

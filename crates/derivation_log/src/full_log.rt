@@ -1,14 +1,12 @@
 //! A log of what a certificate needs.
 
-ghost use Rattle.std.specs.Prelude.{◌≡◌, ◌≤◌, true, false, [], IfOk, map};
+ghost use Rattle.std.specs.Prelude.{◌≡◌, ◌≤◌, true, false, [], IfOk};
 ghost use Rattle.pq_base.specs.Limits.{max_class};
 ghost use Rattle.pq_base.specs.Prime.{prime_value};
 ghost use Rattle.derivation_log.specs.declared.source.Run.{Run};
-ghost use Rattle.derivation_log.specs.declared.source.Run.TheVariants.{Iterated};
-ghost use Rattle.derivation_log.specs.HeldSteps.{HeldStep};
 ghost use Rattle.derivation_log.specs.Certificates.{has_two_runs};
 ghost use Rattle.derivation_log.specs.CertificateForms.{first_version};
-ghost use Rattle.derivation_log.specs.HeldLines.{KeepsLines};
+ghost use Rattle.derivation_log.specs.HeldLines.{KeepsLines, HoldsFitting};
 
 use crate::certificate::Cert;
 use crate::lines::told_lines;
@@ -31,13 +29,11 @@ pub struct FullLog {
 }
 
 impl Model for FullLog {
-    ghost use Rattle.derivation_log.specs.HeldLines.{LinesOfRuns, HoldsLines};
+    ghost use Rattle.derivation_log.specs.HeldLines.{LinesOfRuns};
 
     ghost Value = { LinesOfRuns };
 
     ghost view = { λ l. record { iterated = l.iterated.items; whole = l.whole.items } };
-
-    ghost invariant = { λ l. HoldsLines (record { iterated = l.iterated.items; whole = l.whole.items }) };
 }
 
 impl FullLog {
@@ -48,6 +44,33 @@ impl FullLog {
         FullLog {
             iterated: Vec::new(alloc),
             whole: Vec::new(alloc),
+        }
+    }
+
+    /// The certificate of the steps that the log keeps, for a presentation, a prime, a class and their answer.
+    ///
+    /// The steps have this prime, and sources that may be named; the iterated run has none unless there are fixed relators and
+    /// endomorphisms. The log is dropped on refusal.
+    pub fn finish(
+        self,
+        pres: &LPres,
+        prime: Prime,
+        asked: u8,
+        answer: &Answer,
+    ) -> Result<Cert, NoMemory>
+        requires class_from_one { 1 ≤ asked }
+        requires class_limit { asked ≤ max_class }
+        requires prime { answer.now.presentation.prime ≡ prime_value prime }
+        requires names { answer.now.names ≡ pres.now.names }
+        requires steps { (run : Run) → HoldsFitting pres.now (prime_value prime) run (KeepsLines self run) }
+        requires one_run { has_two_runs pres.now ≡ false → self.iterated ≡ [] }
+        ensures { IfOk result (λ c. c ≡ first_version pres.now (prime_value prime) asked self.iterated self.whole answer.now) }
+    {
+        let pres = pres.duplicate()?;
+        let answer = answer.duplicate()?;
+        match Cert::of(pres, prime, asked, self.iterated, self.whole, answer) {
+            Some(cert) => Ok(cert),
+            None => unreachable!(),
         }
     }
 }

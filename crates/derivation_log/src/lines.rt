@@ -83,7 +83,8 @@ fn tail_line(alloc: Global, basis: &Basis, tail: u16) -> Result<CertTail, NoMemo
 
 /// Minus the entries of a row that aren't 0, with their columns, but for the pivot's.
 fn kept_pairs(alloc: Global, row: &Row, pivot: u16) -> Result<Vec<(u16, u8)>, NoMemory>
-    ensures { IfOk result (λ v. v.items ≡ pairs_of (kept_coefficient row.now.prime pivot row.now.entries) (numbers_from 1 (length row.now.entries))) }
+    ensures { IfOk result (λ v. v.items
+        ≡ pairs_of (kept_coefficient row.now.prime pivot row.now.entries) (numbers_from 1 (length row.now.entries))) }
 {
     let mut pairs = Vec::new(alloc);
     for c in 0..row.width() {

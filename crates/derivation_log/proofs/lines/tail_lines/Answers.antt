@@ -1,7 +1,7 @@
 use Rattle.std.proofs.Common.{◌+◌, ◌++◌, ◌∷◌, [], List, sym, ap, ◌∙◌}
 use Rattle.std.proofs.lemmas.Bool.{iff_false}
 use Rattle.derivation_log.specs.Certificates.{TailLine}
-use Rattle.derivation_log.specs.HeldLines.{tail_line, tail_lines}
+use Rattle.derivation_log.specs.HeldLines.{tail_line}
 use Rattle.derivation_log.proofs.LineParts.{lines-pivot, lines-no_pivot}
 use Rattle.derivation_log.proofs.lines.tail_lines.Goals as goal
 use Rattle.derivation_log.proofs.lines.tail_lines.Goals.{then-is_pivot+in_ok-tail_line+in_ok-push, else-is_pivot}

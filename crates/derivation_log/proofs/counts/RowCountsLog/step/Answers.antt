@@ -1,7 +1,7 @@
-use Rattle.std.proofs.Common.{rules, ◌≡◌, ℕ, List, [], ◌∷◌, ◌++◌, length, sym, ap, ◌∙◌, subst}
+use Rattle.std.proofs.Common.{rules, ◌≡◌, [], ◌∷◌, ◌++◌, length, sym, subst}
 use Rattle.derivation_log.specs.declared.source.Run.{Run}
 use Rattle.derivation_log.specs.HeldSteps.{KeepsOneMore, told_step}
-use Rattle.derivation_log.specs.RowCounts.{CountsOfRuns, HasCounts}
+use Rattle.derivation_log.specs.RowCounts.{HasCounts}
 use Rattle.derivation_log.proofs.CountLaws.{keeps-one_more}
 use Rattle.derivation_log.proofs.counts.RowCountsLog.step.Goals as goal
 

@@ -1,9 +1,9 @@
-use Rattle.std.proofs.Common.{◌≡◌, List, [], ◌∷◌, ◌++◌, sym, ap, ◌∙◌, subst}
+use Rattle.std.proofs.Common.{◌≡◌, [], ◌∷◌, ◌++◌, sym, ap, ◌∙◌, subst}
 use Rattle.derivation_log.specs.declared.source.Run.{Run}
 use Rattle.derivation_log.specs.HeldSteps.{KeepsOneMore, told_step}
 use Rattle.derivation_log.specs.Certificates.{StepLines}
 use Rattle.derivation_log.specs.HeldLines.{KeepsLines, LinesOfRuns, held_lines}
-use Rattle.derivation_log.proofs.HeldLines.{lines-one_more, holds-iterated, holds-whole}
+use Rattle.derivation_log.proofs.HeldLines.{lines-one_more}
 use Rattle.derivation_log.proofs.full_log.FullLogLog.step.Goals as goal
 
 iterated-grown : (c : goal.In_ok-push-in-Iterated)
@@ -17,16 +17,6 @@ whole-grown : (c : goal.In_ok-push-in-Whole)
 whole-grown c =
     c.in_ok-push-in-Whole.ensures.items
     ∙ ap (λ (s : StepLines). c.self.inside.whole.items ++ s ∷ []) c.in_ok-step.ensures.lines
-
-pub invariant_of-self : goal.invariant_of-self
-invariant_of-self c =
-    holds-iterated (record { iterated = c.self.inside.iterated.items; whole = c.self.inside.whole.items }) c.push.new.self.items
-    (told_step c.args.sources.now c.args.basis.now) c.self.invariant c.told_lines.ensures.told (iterated-grown c)
-
-pub invariant_of-self-in-Continue-branch-3 : goal.invariant_of-self-in-Continue-branch-3
-invariant_of-self-in-Continue-branch-3 c =
-    holds-whole (record { iterated = c.self.inside.iterated.items; whole = c.self.inside.whole.items }) c.push-in-Whole.new.self.items
-    (told_step c.args.sources.now c.args.basis.now) c.self.invariant c.told_lines.ensures.told (whole-grown c)
 
 pub returns-in_ok-push-in-Iterated-clause-kept : goal.returns-in_ok-push-in-Iterated-clause-kept
 returns-in_ok-push-in-Iterated-clause-kept c =

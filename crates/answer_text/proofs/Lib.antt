@@ -7,15 +7,15 @@ pub mod ImagesTold
 pub mod GeneratorsTold
 pub mod HeadTold
 pub mod OneText
-mod FormLaws
-mod AnswerForm
+pub mod FormLaws
+pub mod AnswerForm
 mod FirstPlaces
 mod WordSteps
 mod RelationAppends
 mod AnswerRead
 mod GeneratorsRead
 mod RelationAdded
-mod DraftAdded
+pub mod DraftAdded
 mod BodyStart
 mod BodyAdded
 pub mod lines

@@ -6,7 +6,7 @@ pub mod fault;
 mod json_text;
 pub mod laws;
 mod line_reading;
-mod pieces;
+pub mod pieces;
 mod reading;
 mod source;
 mod values;

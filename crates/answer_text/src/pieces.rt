@@ -33,7 +33,7 @@ fn first(text: &[u8], byte: u8) -> Option<usize>
 }
 
 /// What stands behind a keyword.
-pub(crate) fn behind<'a>(text: &'a [u8], keyword: &[u8]) -> Option<&'a [u8]>
+pub fn behind<'a>(text: &'a [u8], keyword: &[u8]) -> Option<&'a [u8]>
     ensures some { IfSome result (λ rest. text.now ≡ keyword.now ++ rest.now) }
     ensures none { IfNone result ((rest : List ℕ) → ¬ (text.now ≡ keyword.now ++ rest)) }
 {

@@ -1,0 +1,41 @@
+-- A certificate whose presentation and answer are values of the program is within the limits of texts.
+use Rattle.std.proofs.Common.{◌≡◌, ◌≤◌, ℕ, List, [], ◌∷◌, All, sym, subst, ap, ◌∙◌}
+use Rattle.std.proofs.lemmas.List.Elements.{All-head, All-tail}
+use Rattle.pq_base.specs.LPresentation.{LPresentation}
+use Rattle.pq_base.specs.Limits.{max_rank}
+use Rattle.pq_base.specs.Name.{IsName}
+use Rattle.pq_base.specs.Presentation.{Presentation}
+use Rattle.pq_base.specs.Prime.{IsOffered}
+use Rattle.pq_base.specs.Answer.{Answer, IsAnswer}
+use Rattle.pc_presentation.specs.Pcp.{TailedPresentation, IsTailedPresentation}
+use Rattle.answer_text.specs.OneText.{AreNames}
+use Rattle.answer_text.specs.OneText as answers
+use Rattle.derivation_log.specs.Certificates.{Certificate}
+use Rattle.derivation_log.specs.CertificateForms.{IsCertificate}
+use Rattle.cert_text.specs.CertificateText.{HasText, IsWritable}
+
+AreNames-All : (names : List (List ℕ)) → All IsName names → AreNames names
+AreNames-All [] h = tt
+AreNames-All (n ∷ ns) h = (All-head IsName n ns h, AreNames-All ns (All-tail IsName n ns h))
+
+answer-writable : (A : Answer) (T : TailedPresentation) → T.presentation ≡ A.presentation → IsTailedPresentation T → IsAnswer A → AreNames A.names → answers.IsWritable A
+answer-writable A T same is answer names =
+    let limit : T.presentation.rank ≤ max_rank = is.rank_limit in
+    record {
+      prime = subst (λ (P : Presentation). IsOffered P.prime) same is.prime;
+      rank_limit = subst (λ (P : Presentation). P.rank ≤ max_rank) same limit;
+      names = names;
+      answer = answer;
+    }
+
+pub IsWritable-parts : (c : Certificate) (L : LPresentation) (A : Answer) (T : TailedPresentation) → L ≡ c.presentation → A ≡ c.answer → IsCertificate c → HasText L
+    → T.presentation ≡ A.presentation → IsTailedPresentation T → IsAnswer A → c.version ≡ 1 → IsWritable c
+IsWritable-parts c L A T l a is text same tailed answer version =
+    let texts : HasText c.presentation = subst HasText l text in
+    let names : AreNames A.names = subst AreNames (sym is.names ∙ ap (λ (x : Answer). x.names) (sym a)) (AreNames-All c.presentation.names texts.names) in
+    record {
+      version = version;
+      certificate = is;
+      presentation = texts;
+      answer = subst answers.IsWritable a (answer-writable A T same tailed answer names);
+    }

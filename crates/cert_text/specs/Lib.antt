@@ -1,0 +1,5 @@
+pub mod CertificateText
+pub mod LineByLine
+pub mod CertificatePlaces
+pub mod CertificateFaults
+pub mod NumberFronts

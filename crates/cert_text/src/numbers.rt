@@ -1,0 +1,36 @@
+// Numbers in texts.
+ghost use Rattle.std.specs.Prelude.{◌≡◌, ◌++◌, OnOk, codes, decimal};
+ghost use Rattle.cert_text.specs.CertificateText.{numbers_text, along_text};
+
+use pq_base::NoMemory;
+
+/// Writes a number in decimal digits.
+pub(crate) fn push_number(out: &mut Vec<u8>, n: u64) -> Result<(), NoMemory>
+    ensures { OnOk result (out.new.items ≡ out.old.items ++ decimal n) }
+{
+    let digits = format!(in *out.allocator(); "{n}")?;
+    out.extend_from_slice(digits.as_bytes())?;
+    Ok(())
+}
+
+/// Writes the endomorphisms of a path, where it has any.
+pub(crate) fn push_along(out: &mut Vec<u8>, path: &[u8]) -> Result<(), NoMemory>
+    ensures { OnOk result (out.new.items ≡ out.old.items ++ along_text path.now) }
+{
+    if path.is_empty() {
+        return Ok(());
+    }
+    out.extend_from_slice(b" along")?;
+    push_path(out, path)
+}
+
+/// Writes numbers, each behind a blank.
+fn push_path(out: &mut Vec<u8>, path: &[u8]) -> Result<(), NoMemory>
+    ensures { OnOk result (out.new.items ≡ out.old.items ++ numbers_text path.now) }
+{
+    for number in path {
+        out.push(b' ')?;
+        push_number(out, u64::from(*number))?;
+    }
+    Ok(())
+}

@@ -16,5 +16,6 @@ mod writing;
 
 pub use fault::AnswerFault;
 pub use json_text::json;
+pub use line_reading::{class_line, prime_line};
 pub use reading::read_answer;
 pub use writing::text;

@@ -21,7 +21,7 @@ use pq_base::{Name, NoMemory, Prime};
 use std::alloc::Global;
 
 /// The prime of the line of the prime.
-pub(crate) fn prime_line(line: &[u8]) -> Option<Prime>
+pub fn prime_line(line: &[u8]) -> Option<Prime>
     ensures some { IfSome result (λ q. line.now ≡ prime_line (prime_value q)) }
     ensures none { IfNone result ((p : ℕ) → IsOffered p → ¬ (line.now ≡ prime_line p)) }
 {
@@ -30,7 +30,7 @@ pub(crate) fn prime_line(line: &[u8]) -> Option<Prime>
 }
 
 /// The class of the line of the class.
-pub(crate) fn class_line(line: &[u8]) -> Option<u8>
+pub fn class_line(line: &[u8]) -> Option<u8>
     ensures some { IfSome result (λ c. (c ≤ max_class) × (line.now ≡ class_line c)) }
     ensures none { IfNone result ((c : ℕ) → c ≤ max_class → ¬ (line.now ≡ class_line c)) }
 {

@@ -15,7 +15,7 @@ ghost use Rattle.answer_text.specs.AnswerText.{commutator_text, power_text};
 use pc_presentation::{Relation, Syllable};
 
 /// What stands before the first such byte, and what stands behind it.
-pub(crate) fn split_at_first(text: &[u8], byte: u8) -> Option<(&[u8], &[u8])>
+pub fn split_at_first(text: &[u8], byte: u8) -> Option<(&[u8], &[u8])>
     ensures some { IfSome result (λ s. text.now ≡ s.0.now ++ byte ∷ s.1.now) }
     ensures first { IfSome result (λ s. avoids byte s.0.now ≡ true) }
     ensures none { IfNone result (avoids byte text.now ≡ true) }

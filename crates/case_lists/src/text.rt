@@ -104,6 +104,31 @@ fn escaped_byte(byte: u8) -> Result<u8> {
     }
 }
 
+/// A text in which its first part that stands before `=>` in a line is replaced by what stands behind `=>` there, both with their
+/// escapes.
+pub fn replaced(alloc: Global, text: &[u8], rest: &str) -> Result<Vec<u8>> {
+    let Some((old, new)) = rest.split_once(" =>") else {
+        bail!("without =>");
+    };
+    let old = unescaped(alloc, old)?;
+    let new = unescaped(alloc, new.strip_prefix(' ').unwrap_or(new))?;
+    let Some(place) = place_of(text, &old) else {
+        bail!("no such part");
+    };
+    let (before, behind) = text.split_at(place.min(text.len()));
+    let mut changed = Vec::from_slice(alloc, before)?;
+    changed.extend_from_slice(&new)?;
+    if let Some(rest) = behind.strip_prefix(old.as_slice()) {
+        changed.extend_from_slice(rest)?;
+    }
+    Ok(changed)
+}
+
+/// Where a part of a text begins first.
+fn place_of(text: &[u8], part: &[u8]) -> Option<usize> {
+    (0..text.len()).find(|place| text[*place..].starts_with(part))
+}
+
 /// Writes bytes line by line, each behind four blanks, and says how many there are where they are many.
 pub fn show(out: &mut String, bytes: &[u8]) -> Result<()> {
     if bytes.len() > SHOWN {

@@ -17,7 +17,7 @@ use Rattle.cert_text.proofs.lines.FormLaws.{tells_places}
 use Rattle.cert_text.proofs.lines.CertificateLeads.{front_lines, head, certificate_text-parts, front-leads, answer-form, IsWhole-certificate_text}
 
 -- behind the runs
-abbrev IsInAnswer : Place → Type 0
+abbrev pub IsInAnswer : Place → Type 0
 IsInAnswer for_version = ⊥
 IsInAnswer for_generators = ⊥
 IsInAnswer (in_presentation L) = ⊥
@@ -26,7 +26,7 @@ IsInAnswer (for_run H) = ⊥
 IsInAnswer (in_run H run earlier ss) = ⊥
 IsInAnswer (in_answer H earlier steps P) = Unit {0}
 
-stays : (P Q : Place) (l : List ℕ) → IsInAnswer P → HasForm P l Q → IsInAnswer Q
+pub stays : (P Q : Place) (l : List ℕ) → IsInAnswer P → HasForm P l Q → IsInAnswer Q
 stays (in_answer H earlier steps A) Q l past (of_answer H2 earlier2 steps2 A2 line B f) = tt
 stays for_version Q l past f = absurd past
 stays for_generators Q l past f = absurd past
@@ -36,7 +36,7 @@ stays (for_run H) Q l past f = absurd past
 stays (in_run H run earlier ss) Q l past f = absurd past
 
 -- what a place behind the runs says of the lines before
-abbrev head_at : Place → Head
+abbrev pub head_at : Place → Head
 head_at for_version = head_of (record { names = []; fixed = []; iterated = []; endos = [] }) 0 0
 head_at for_generators = head_of (record { names = []; fixed = []; iterated = []; endos = [] }) 0 0
 head_at (in_presentation L) = head_of L 0 0
@@ -45,7 +45,7 @@ head_at (for_run H) = H
 head_at (in_run H run earlier ss) = H
 head_at (in_answer H earlier steps P) = H
 
-abbrev earlier_at : Place → List StepLines
+abbrev pub earlier_at : Place → List StepLines
 earlier_at for_version = []
 earlier_at for_generators = []
 earlier_at (in_presentation L) = []
@@ -54,7 +54,7 @@ earlier_at (for_run H) = []
 earlier_at (in_run H run earlier ss) = earlier
 earlier_at (in_answer H earlier steps P) = earlier
 
-abbrev steps_at : Place → List StepLines
+abbrev pub steps_at : Place → List StepLines
 steps_at for_version = []
 steps_at for_generators = []
 steps_at (in_presentation L) = []
@@ -63,7 +63,7 @@ steps_at (for_run H) = []
 steps_at (in_run H run earlier ss) = ss
 steps_at (in_answer H earlier steps P) = steps
 
-certificate-same : (c d : Certificate) → c.version ≡ d.version → head c ≡ head d → c.iterated ≡ d.iterated → c.whole ≡ d.whole → c.answer ≡ d.answer → c ≡ d
+pub certificate-same : (c d : Certificate) → c.version ≡ d.version → head c ≡ head d → c.iterated ≡ d.iterated → c.whole ≡ d.whole → c.answer ≡ d.answer → c ≡ d
 certificate-same c d version head iterated whole answer = λ i. record {
   version = version i;
   presentation = (head i).presentation;

@@ -14,11 +14,11 @@ use Rattle.derivation_log.specs.Certificates.{Certificate}
 use Rattle.derivation_log.specs.CertificateForms.{IsCertificate}
 use Rattle.cert_text.specs.CertificateText.{HasText, IsWritable}
 
-AreNames-All : (names : List (List ℕ)) → All IsName names → AreNames names
+pub AreNames-All : (names : List (List ℕ)) → All IsName names → AreNames names
 AreNames-All [] h = tt
 AreNames-All (n ∷ ns) h = (All-head IsName n ns h, AreNames-All ns (All-tail IsName n ns h))
 
-answer-writable : (A : Answer) (T : TailedPresentation) → T.presentation ≡ A.presentation → IsTailedPresentation T → IsAnswer A → AreNames A.names → answers.IsWritable A
+pub answer-writable : (A : Answer) (T : TailedPresentation) → T.presentation ≡ A.presentation → IsTailedPresentation T → IsAnswer A → AreNames A.names → answers.IsWritable A
 answer-writable A T same is answer names =
     let limit : T.presentation.rank ≤ max_rank = is.rank_limit in
     record {

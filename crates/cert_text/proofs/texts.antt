@@ -2,5 +2,8 @@
 pub mod NumberTexts
 pub mod NumbersRead
 pub mod OverlapsRead
+pub mod PairsRead
 pub mod SourceTexts
+pub mod SourcesRead
 pub mod TailTexts
+pub mod TailsRead

@@ -4,6 +4,8 @@
 -- From: this project's own format.
 use Rattle.std.specs.Prelude.{◌≡◌, ◌⊎◌, ℕ, zero, suc, List}
 use Rattle.derivation_log.specs.Certificates.{Certificate}
+use Rattle.cert_text.specs.declared.fault.CertFault.{CertFault}
+use Rattle.cert_text.specs.declared.fault.CertFault.TheVariants.{Line, NoMemory}
 use Rattle.cert_text.specs.CertificateText.{certificate_text, IsWritable}
 use Rattle.cert_text.specs.CertificatePlaces.{Place, HasForm, IsEnd}
 use Rattle.cert_text.specs.CertificatePlaces.Place.{for_version}
@@ -17,6 +19,10 @@ abbrev pub IsFaultLine : List ℕ → ℕ → Type 0
 IsFaultLine bytes zero = ⊥
 IsFaultLine bytes (suc k) =
     IsFirstBad Place HasForm IsEnd for_version bytes k ⊎ (IsWhole Place HasForm IsEnd for_version bytes (suc k) × (¬ IsCertificateText bytes))
+
+abbrev pub IsFaultOf : List ℕ → CertFault → Type 0
+IsFaultOf bytes (Line n) = IsFaultLine bytes n
+IsFaultOf bytes NoMemory = Unit {0}
 
 -- bytes have a fault at one line only
 abbrev pub OneFaultLine : Type 0

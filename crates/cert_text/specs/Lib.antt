@@ -3,3 +3,5 @@ pub mod LineByLine
 pub mod CertificatePlaces
 pub mod CertificateFaults
 pub mod NumberFronts
+pub mod WrittenNumbers
+pub mod ReadSoFar

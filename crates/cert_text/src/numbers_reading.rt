@@ -10,7 +10,7 @@ use pq_base::NoMemory;
 use std::alloc::Global;
 
 /// The number behind a blank at the front of a text, and what follows it.
-fn next_number(text: &[u8]) -> Option<(u16, &[u8])>
+pub(crate) fn next_number(text: &[u8]) -> Option<(u16, &[u8])>
     ensures some { IfSome result (λ x. text.now ≡ 32 ∷ (decimal x.0 ++ x.1.now)) }
     ensures small { IfSome result (λ x. x.0 < 65536) }
     ensures stops { IfSome result (λ x. StartsWell is_no_digit x.1.now) }

@@ -12,6 +12,7 @@ use std::alloc::Global;
 /// The path of some numbers, where none is above 255.
 fn path_of(alloc: Global, numbers: &[u16]) -> Result<Option<Path>, NoMemory>
     ensures some { IfOk result (λ r. IfSome r (λ path. path ≡ numbers.now)) }
+    ensures small { IfOk result (λ r. IfSome r (λ path. AllBelow 256 path)) }
     ensures none { IfOk result (λ r. IfNone r (¬ AllBelow 256 numbers.now)) }
 {
     let mut path: Vec<u8> = Vec::new(alloc);
@@ -27,6 +28,7 @@ fn path_of(alloc: Global, numbers: &[u16]) -> Result<Option<Path>, NoMemory>
 /// The path of the numbers of a text, of which there are some.
 fn path_behind(alloc: Global, text: &[u8]) -> Result<Option<Path>, NoMemory>
     ensures some { IfOk result (λ r. IfSome r (λ path. codes " along" ++ text.now ≡ along_text path)) }
+    ensures small { IfOk result (λ r. IfSome r (λ path. AllBelow 256 path)) }
     ensures none { IfOk result (λ r. IfNone r ((e : ℕ) (s : List ℕ) → AllBelow 256 (e ∷ s) → ¬ (text.now ≡ numbers_text (e ∷ s)))) }
 {
     let Some(found) = numbers(alloc, text)? else {
@@ -45,6 +47,7 @@ fn path_behind(alloc: Global, text: &[u8]) -> Result<Option<Path>, NoMemory>
 /// The path that a text says.
 pub(crate) fn along(alloc: Global, text: &[u8]) -> Result<Option<Path>, NoMemory>
     ensures some { IfOk result (λ r. IfSome r (λ path. text.now ≡ along_text path)) }
+    ensures small { IfOk result (λ r. IfSome r (λ path. AllBelow 256 path)) }
     ensures none { IfOk result (λ r. IfNone r ((s : List ℕ) → AllBelow 256 s → ¬ (text.now ≡ along_text s))) }
 {
     if text.is_empty() {

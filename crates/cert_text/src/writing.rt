@@ -70,7 +70,7 @@ fn push_prime_and_class(out: &mut Vec<u8>, prime: Prime, asked: u8) -> Result<()
 }
 
 /// Whether the run over the iterated part comes first.
-fn has_two_runs(pres: &LPres) -> bool
+pub(crate) fn has_two_runs(pres: &LPres) -> bool
     ensures { result ≡ are_two_runs pres.now }
 {
     !pres.fixed().is_empty() && !pres.endos().is_empty()

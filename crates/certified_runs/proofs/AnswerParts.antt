@@ -12,19 +12,9 @@ use Rattle.pq_base.proofs.words.JoinedLaws.{joined-sym, joined-trans, joined-fro
 use Rattle.pq_base.proofs.words.LetterLaws.{HasLetters-get_or}
 use Rattle.derivation_log.specs.PlainValues.{bare_state, images_of, identity_of, IsCarriedToIdentity}
 use Rattle.derivation_log.specs.CertificateParts.{AreCarriedToIdentity}
-use Rattle.certified_runs.proofs.PlainGroups.{one-state, one-word, value-known, words-of_images, elements-of_images}
+use Rattle.derivation_log.proofs.PlainGroups.{dead-carried}
 
 module _ (A : Answer) (is : IsAnswer A) (consistent : IsConsistent A.presentation) where
-  pub dead-carried : (w : List ℤ) → HasLetters (length A.names) w → Joined A.presentation (sub w (image_words A)) []
-      → IsCarriedToIdentity A w
-  dead-carried w l dies =
-      let long : length (images_of A) ≡ length A.names = length-map A.images bare_state ∙ is.image_count in
-      value-known A is consistent (images_of A) (elements-of_images A is consistent) w
-      (subst (λ (n : ℕ). HasLetters n w) (sym long) l) (identity_of A) (one-state A is)
-      (joined-trans (joined-from_equal A.presentation (one-word A is))
-      (joined-trans (joined-sym dies)
-      (joined-from_equal A.presentation (ap (sub w) (sym (words-of_images A is consistent))))))
-
   module _ (L : LPresentation) (words : IsLPresentation L) (names : A.names ≡ L.names) (kills : Kills L A) where
     letters : (w : List ℤ) → HasLetters (length L.names) w → HasLetters (length A.names) w
     letters w l = subst (λ (ns : List (List ℕ)). HasLetters (length ns) w) (sym names) l
@@ -34,7 +24,7 @@ module _ (A : Answer) (is : IsAnswer A) (consistent : IsConsistent A.presentatio
     iterated-carried =
         All-from_get_or (IsCarriedToIdentity A) L.iterated []
         (λ i l.
-        dead-carried (get_or L.iterated i [])
+        dead-carried A is consistent (get_or L.iterated i [])
         (letters (get_or L.iterated i []) (HasLetters-get_or (length L.names) L.iterated i words.iterated_words))
         (kills (get_or L.iterated i []) (iterated_relator [] i tt l)))
 
@@ -43,6 +33,6 @@ module _ (A : Answer) (is : IsAnswer A) (consistent : IsConsistent A.presentatio
     fixed-carried =
         All-from_get_or (IsCarriedToIdentity A) L.fixed []
         (λ i l.
-        dead-carried (get_or L.fixed i [])
+        dead-carried A is consistent (get_or L.fixed i [])
         (letters (get_or L.fixed i []) (HasLetters-get_or (length L.names) L.fixed i words.fixed_words))
         (kills (get_or L.fixed i []) (fixed_relator i l)))

@@ -23,7 +23,8 @@ use Rattle.derivation_log.proofs.ValidParts.{keeps-valid}
 use Rattle.derivation_log.proofs.PassedRuns.{PassesSteps, held-run-passes}
 use Rattle.derivation_log.proofs.JudgedOverlaps.{consistent-overlaps}
 use Rattle.certified_runs.proofs.RunAnswers.{give-answers}
-use Rattle.certified_runs.proofs.AnswerParts.{dead-carried, iterated-carried, fixed-carried}
+use Rattle.certified_runs.proofs.AnswerParts.{iterated-carried, fixed-carried}
+use Rattle.derivation_log.proofs.PlainGroups.{dead-carried}
 use Rattle.certified_runs.proofs.MapParts.{endos-induce, part-makes_map}
 
 -- both presentations have the same names

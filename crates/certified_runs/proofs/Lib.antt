@@ -1,4 +1,3 @@
-pub mod PlainGroups
 pub mod AnswerParts
 pub mod Extensions
 pub mod KeptSources
@@ -8,4 +7,6 @@ pub mod PlainMaps
 pub mod MapParts
 pub mod CertifiedRuns
 pub mod GivenRuns
+pub mod FittingRuns
+pub mod FewSources
 mod RunVectors

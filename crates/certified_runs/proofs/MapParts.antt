@@ -23,9 +23,9 @@ use Rattle.pc_presentation.specs.Collection.{State, IsState}
 use Rattle.pc_presentation.specs.Arithmetic.{word_of}
 use Rattle.cover_quotient.proofs.stages.ImageNumbers.{AreWords-image_words}
 use Rattle.derivation_log.specs.PlainValues.{bare_state, identity_of, images_of, MakeMap, AreValues, InducesPlainly}
-use Rattle.certified_runs.proofs.PlainGroups.{AreElements, state-bare, bare-word, value-known, words-of_images, elements-of_images}
+use Rattle.derivation_log.proofs.PlainGroups.{AreElements, state-bare, bare-word, value-known, words-of_images, elements-of_images, word-at}
 use Rattle.certified_runs.proofs.LargestMaps.{AreWords-map_sub, relators-satisfied, images-made}
-use Rattle.certified_runs.proofs.PlainMaps.{HaveElements, elements-of, elements-are, word-at, makes-map}
+use Rattle.certified_runs.proofs.PlainMaps.{HaveElements, elements-of, elements-are, makes-map}
 
 -- words of elements
 element-letters : (A : Answer) → IsAnswer A → (s : State) → IsState (without_rows A.presentation) A.presentation.rank s
@@ -147,7 +147,7 @@ module _ (L : LPresentation) (words : IsLPresentation L) (none : length L.fixed 
         (joined-sub_same A.presentation (length L.names) ws (map W found.0)
         (λ k l.
         joined-trans (found.1.each k (let many = length-map endo (λ (u : List ℤ). sub u (image_words A)) in omega arith)).joined
-        (joined-from_equal A.presentation (sym (word-at A is consistent found.0 k (omega arith)))))
+        (joined-from_equal A.presentation (sym (word-at A is found.0 k (omega arith)))))
         r (HasLetters-IsRelator L words h)))
         (joined-trans (joined-from_equal A.presentation (sym (sub-sub r endo (image_words A)))) (carried r h))
 

@@ -21,7 +21,7 @@ use Rattle.pc_presentation.specs.Collection.{State, IsState}
 use Rattle.pc_presentation.specs.Arithmetic.{word_of}
 use Rattle.cover_quotient.proofs.stages.ImageNumbers.{AreWords-image_words}
 use Rattle.derivation_log.specs.PlainValues.{identity_of, plain_product, plain_power, HaveOneValue, IsDefinedValue, AreDefinedValues, AreSatisfied, MakeMap}
-use Rattle.certified_runs.proofs.PlainGroups.{AreElements, element-get_or, one-state, one-word, product-word, product-element, same-elements, IsElementOf, element, value-known}
+use Rattle.derivation_log.proofs.PlainGroups.{AreElements, element-get_or, one-state, one-word, product-word, product-element, same-elements, IsElementOf, element, value-known, power-element, power-joined, word-at}
 use Rattle.certified_runs.proofs.LargestMaps.{spelled_under, spelled_under-at, spelled_under-words, length-spelling_words}
 
 module _ (A : Answer) (is : IsAnswer A) (consistent : IsConsistent A.presentation) where
@@ -55,26 +55,6 @@ module _ (A : Answer) (is : IsAnswer A) (consistent : IsConsistent A.presentatio
   elements-are (w ∷ ws) (s ∷ g) h =
       let c = h.count in
       ((h.each 0 (omega arith)).state, elements-are ws g (record { count = omega arith; each = λ i l. h.each (suc i) (omega arith) }))
-
-  -- the word of an element of a list
-  pub word-at : (f : List State) (i : ℕ) → i < length f
-      → get_or (map (word_of (without_rows A.presentation)) f) i [] ≡ word_of (without_rows A.presentation) (get_or f i (identity_of A))
-  word-at f i l =
-      let c : length (map W f) ≡ length f = length-map f W in
-      get_or_default (map W f) i [] (W (identity_of A)) (omega arith) ∙ get_or-map W f i (identity_of A)
-
-  -- powers
-  power-element : (u : State) → IsState (without_rows A.presentation) A.presentation.rank u → (n : ℕ)
-      → IsState (without_rows A.presentation) A.presentation.rank (plain_power A u n)
-  power-element u h zero = one-state A is
-  power-element u h (suc n) = product-element A is (plain_power A u n) u (power-element u h n) h
-
-  power-joined : (u : State) → IsState (without_rows A.presentation) A.presentation.rank u → (n : ℕ)
-      → Joined A.presentation (W (plain_power A u n)) (copies (W u) n)
-  power-joined u h zero = joined-from_equal P (one-word A is)
-  power-joined u h (suc n) =
-      joined-trans (product-word A is (plain_power A u n) u (power-element u h n) h)
-      (joined-trans (joined-append_right (W u) (power-joined u h n)) (joined-from_equal P (sym (append-copies (W u) n))))
 
   module _ (B : Answer) (isB : IsAnswer B) (consistentB : IsConsistent B.presentation) (prime : A.presentation.prime ≡ B.presentation.prime)
       (f : List State) (are : AreElements A.presentation f) (countf : length f ≡ length B.images)
@@ -121,7 +101,7 @@ module _ (A : Answer) (is : IsAnswer A) (consistent : IsConsistent A.presentatio
         let c = count in
         let d = length-G in
         joined-sub_same P m G (map W g)
-        (λ i k. joined-trans (found.1.each i (omega arith)).joined (joined-from_equal P (sym (word-at g i (omega arith))))) w l
+        (λ i k. joined-trans (found.1.each i (omega arith)).joined (joined-from_equal P (sym (word-at A is g i (omega arith))))) w l
 
     spelled-as : (k : ℕ) → k < B.presentation.rank → spell B k ≡ spelled B.presentation.prime (spelling_words B) (definition_at B k)
     spelled-as k l =
@@ -143,7 +123,7 @@ module _ (A : Answer) (is : IsAnswer A) (consistent : IsConsistent A.presentatio
         ap (λ (j : ℕ). get_or f j (identity_of A)) place
         ∙ same-elements A is consistent x (get_or g k (identity_of A)) state (at k l).state
         (joined-trans
-        (joined-from_equal P (sym (ap (λ (w : List ℤ). sub w F) e ∙ append-nil (get_or F i []) ∙ word-at f i within))) (at k l).joined)
+        (joined-from_equal P (sym (ap (λ (w : List ℤ). sub w F) e ∙ append-nil (get_or F i []) ∙ word-at A is f i within))) (at k l).joined)
     defined-as k l (commutator zero i) h e = absurd h
     defined-as k l (commutator (suc j) zero) h e = absurd h
     defined-as k l (commutator (suc j) (suc i)) h e =
@@ -186,8 +166,8 @@ module _ (A : Answer) (is : IsAnswer A) (consistent : IsConsistent A.presentatio
         let u : State = get_or g j (identity_of A) in
         ap (λ (x : ℕ). plain_power A (get_or g x (identity_of A)) A.presentation.prime) pj
         ∙ same-elements A is consistent (plain_power A u A.presentation.prime) (get_or g k (identity_of A))
-        (power-element u a.state A.presentation.prime) z.state
-        (joined-trans (power-joined u a.state A.presentation.prime)
+        (power-element A is u a.state A.presentation.prime) z.state
+        (joined-trans (power-joined A is u a.state A.presentation.prime)
         (joined-trans (joined-copies A.presentation.prime (joined-sym a.joined))
         (joined-trans
         (joined-from_equal P
@@ -247,6 +227,6 @@ module _ (A : Answer) (is : IsAnswer A) (consistent : IsConsistent A.presentatio
           let lu : HasLetters m u = HasLetters-get_or m (image_words B) i (AreWords-image_words B isB consistentB) in
           value-known A is consistent g g-are u (subst (λ (n : ℕ). HasLetters n u) (sym count) lu)
           (get_or f i (identity_of A)) (element-get_or P f (identity_of A) are i within)
-          (joined-trans (joined-from_equal P (sym (word-at f i within)))
+          (joined-trans (joined-from_equal P (sym (word-at A is f i within)))
           (joined-trans (images i (omega arith)) (same-under u lu)));
     }

@@ -12,6 +12,7 @@ use Rattle.pq_base.specs.Joined.{Joined, IsConsistent}
 use Rattle.pq_base.specs.Answer.{Answer, IsAnswer, image_words}
 use Rattle.pq_base.specs.Largest.{IsLargest}
 use Rattle.pc_presentation.specs.Collection.{plain_push}
+use Rattle.p_cover.specs.Covers.{CoverOf}
 use Rattle.cover_quotient.specs.Stages.{full_cover_of}
 use Rattle.derivation_log.specs.declared.source.Run.{Run}
 use Rattle.derivation_log.specs.declared.source.Run.TheVariants.{Iterated, Whole}
@@ -20,7 +21,8 @@ use Rattle.derivation_log.specs.declared.part.Part.TheVariants as part_of_run
 use Rattle.derivation_log.specs.HeldSteps.{HeldStep}
 use Rattle.derivation_log.specs.HeldRuns.{IsHeldRun}
 use Rattle.derivation_log.specs.HeldLines.{AreLinesOf}
-use Rattle.derivation_log.specs.Certificates.{Certificate, has_two_runs, steps_of, presentation_of}
+use Rattle.derivation_log.specs.Certificates.{Certificate, has_two_runs, steps_of, step_of, presentation_of}
+use Rattle.derivation_log.specs.CertificateRuns.{cover_at}
 use Rattle.derivation_log.specs.PlainValues.{IsCarriedToIdentity, MakeMap, InducesPlainly, images_of}
 use Rattle.derivation_log.specs.CertificateParts.{full_kind, IsNotShort, OverlapsAgree, built_by}
 use Rattle.derivation_log.specs.Validity.{Keeps, IsValid}
@@ -48,6 +50,15 @@ pub record IsWithinLimits (c : Certificate) (A : Answer) : Type 0 where
 abbrev pub StepsGiveAnswers : Type 0
 StepsGiveAnswers = (c : Certificate) (run : Run) (A : Answer) → IsRunTo c run A → IsWithinLimits c A → (k : ℕ) → 1 ≤ k
     → k ≤ length (steps_of c run) → Keeps full_kind c run k part_of_run.Rank
+
+-- step k of a run names no more sources than its cover has tails
+abbrev pub NamesFewSources : (Answer → CoverOf) → Certificate → Run → ℕ → Type 0
+NamesFewSources cover c run k = length (step_of c run k).sources ≤ length (cover_at cover c run k).sources
+
+-- so does each step
+abbrev pub RunsNameFewSources : Type 0
+RunsNameFewSources = (c : Certificate) (run : Run) (A : Answer) → IsRunTo c run A → (k : ℕ) → 1 ≤ k → k ≤ length (steps_of c run)
+    → NamesFewSources full_cover_of c run k
 
 -- the steps are as many as classes, or the last of them kept no tail
 abbrev pub RunsAreNotShort : Type 0

@@ -1,7 +1,7 @@
 //! What is proved of the certificates that are made of runs. The functions do nothing: each states a law as its clause.
 
 ghost use Rattle.derivation_log.specs.declared.part.Part.TheVariants.{Extra, Row, Sum};
-ghost use Rattle.certified_runs.specs.RunLaws.{StepsPass, StepsGiveAnswers, RunsAreNotShort, RunsBuildTheirAnswers, OverlapsOfConsistentAnswersAgree, KilledWordsAreCarried, EndomorphismsInducePlainly, ImagesMakeMaps, CertificatesOfRunsAreValid};
+ghost use Rattle.certified_runs.specs.RunLaws.{StepsPass, StepsGiveAnswers, RunsNameFewSources, RunsAreNotShort, RunsBuildTheirAnswers, OverlapsOfConsistentAnswersAgree, KilledWordsAreCarried, EndomorphismsInducePlainly, ImagesMakeMaps, CertificatesOfRunsAreValid};
 
 /// No step of a run is above the class that is asked for, or behind one that kept no tail.
 pub fn steps_are_not_extra()
@@ -21,6 +21,11 @@ pub fn lines_are_sums_of_rows()
 /// The tails that a step keeps may be kept, and the rank is within the limit, where the answer that the run ends with is one within it.
 pub fn steps_give_answers()
     ensures { StepsGiveAnswers }
+{}
+
+/// No step names more sources than its cover has tails.
+pub fn runs_name_few_sources()
+    ensures { RunsNameFewSources }
 {}
 
 /// There are as many steps as classes, or the last one kept no tail.

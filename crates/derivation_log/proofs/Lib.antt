@@ -4,6 +4,7 @@ mod CountLaws
 pub mod LineParts
 pub mod PairForms
 pub mod PairRows
+pub mod NextTailLines
 pub mod HeldForms
 pub mod HeldSums
 pub mod HeldCombinations
@@ -15,6 +16,7 @@ pub mod FirstParts
 pub mod ValidParts
 pub mod JudgedOverlaps
 pub mod PlainValues
+pub mod PlainGroups
 pub mod PlainMaps
 pub mod PlainEndomorphisms
 mod CertificateVectors

@@ -53,6 +53,16 @@ are_tail_lines p n lines least [] = true
 are_tail_lines p n lines least (l ∷ ls) =
     is_number_from least l.tail && (is_tail_line p n lines l && are_tail_lines p n lines (suc l.tail) ls)
 
+-- the tails of lines rise from a least one on
+abbrev pub AreRising : ℕ → List TailLine → Type 0
+AreRising least [] = Unit {0}
+AreRising least (l ∷ ls) = (least ≤ l.tail) × AreRising (suc l.tail) ls
+
+-- the least tail that may have a line behind lines from a least one on: that above the last of them
+abbrev pub least_behind : ℕ → List TailLine → ℕ
+least_behind least [] = least
+least_behind least (l ∷ ls) = least_behind (suc l.tail) ls
+
 -- numbers of generators that may be written
 abbrev pub is_written_overlap : Overlap → Bool
 is_written_overlap (Triple k j i) = is_number_from 1 k && (is_number_from 1 j && is_number_from 1 i)

@@ -1,9 +1,9 @@
 //! Whether parts make a certificate.
 
-ghost use Rattle.std.specs.Prelude.{◌≡◌, ◌↔◌, IsTrue};
+ghost use Rattle.std.specs.Prelude.{◌≡◌, ◌↔◌, ◌++◌, ◌∷◌, [], true, IsTrue};
 ghost use Rattle.pq_base.specs.Prime.{prime_value};
 ghost use Rattle.derivation_log.specs.Certificates.{has_two_runs};
-ghost use Rattle.derivation_log.specs.CertificateForms.{first_version, is_number_from, are_pairs, are_at_most, has_line, are_kept_below, is_tail_line, are_tail_lines, is_written_overlap, are_each_one_of, is_source_in, are_sources_in, are_steps_in, IsCertificate};
+ghost use Rattle.derivation_log.specs.CertificateForms.{first_version, is_number_from, are_pairs, are_at_most, has_line, are_kept_below, is_tail_line, are_tail_lines, AreRising, least_behind, is_written_overlap, are_each_one_of, is_source_in, are_sources_in, are_steps_in, IsCertificate};
 
 use crate::source::{RowSource, Run};
 use crate::step_lines::CertStep;
@@ -74,7 +74,7 @@ fn are_sources_in(pres: &LPres, run: Run, sources: &[RowSource]) -> bool
 }
 
 /// Whether a source may be named in a run.
-fn is_source_in(pres: &LPres, run: Run, source: &RowSource) -> bool
+pub fn is_source_in(pres: &LPres, run: Run, source: &RowSource) -> bool
     ensures { result ≡ is_source_in pres.now run source.now }
 {
     match source {
@@ -118,18 +118,35 @@ fn are_each_one_of(n: usize, path: &Path) -> bool
 fn are_tail_lines(p: u8, n: usize, lines: &[CertTail]) -> bool
     ensures { result ≡ are_tail_lines p n lines.now 1 lines.now }
 {
-    let mut least: u32 = 1;
-    for line in lines {
-        if u32::from(line.tail()) < least || !is_tail_line(p, n, lines, line) {
+    for place in 0..lines.len() {
+        if !is_next_tail_line(p, n, &lines[..place], &lines[place]) {
             return false;
         }
-        least = u32::from(line.tail()) + 1;
     }
     true
 }
 
+/// Whether a line may stand behind these lines of a step of n sources.
+pub fn is_next_tail_line(p: u8, n: usize, lines: &[CertTail], line: &CertTail) -> bool
+    requires { are_tail_lines p n lines.now 1 lines.now ≡ true }
+    ensures { result ≡ are_tail_lines p n (lines.now ++ line.now ∷ []) 1 (lines.now ++ line.now ∷ []) }
+{
+    least_behind(lines) <= u32::from(line.tail()) && is_tail_line(p, n, lines, line)
+}
+
+/// The least tail that may have a line behind these.
+fn least_behind(lines: &[CertTail]) -> u32
+    ensures { result ≡ least_behind 1 lines.now }
+{
+    if lines.is_empty() {
+        return 1;
+    }
+    u32::from(lines[lines.len() - 1].tail()) + 1
+}
+
 /// Whether the numbers of a line are such as may stand in a step of n sources with these lines.
 fn is_tail_line(p: u8, n: usize, lines: &[CertTail], line: &CertTail) -> bool
+    requires { AreRising 1 lines.now }
     ensures { result ≡ is_tail_line p n lines.now line.now }
 {
     are_pairs(p, line.kept())
@@ -167,6 +184,7 @@ fn are_at_most(n: usize, pairs: &[(u16, u8)]) -> bool
 
 /// Whether each number is that of a tail below t that has no line.
 fn are_kept_below(lines: &[CertTail], t: u16, pairs: &[(u16, u8)]) -> bool
+    requires { AreRising 1 lines.now }
     ensures { result ≡ are_kept_below lines.now t pairs.now }
 {
     for (number, _) in pairs {
@@ -179,11 +197,21 @@ fn are_kept_below(lines: &[CertTail], t: u16, pairs: &[(u16, u8)]) -> bool
 
 /// Whether a tail has one of these lines.
 fn has_line(lines: &[CertTail], t: u16) -> bool
+    requires { AreRising 1 lines.now }
     ensures { result ≡ has_line lines.now t }
 {
-    for line in lines {
-        if line.tail() == t {
+    let mut low = 0;
+    let mut high = lines.len();
+    while low < high {
+        let middle = low + (high - low) / 2;
+        let tail = lines[middle].tail();
+        if tail == t {
             return true;
+        }
+        if tail < t {
+            low = middle + 1;
+        } else {
+            high = middle;
         }
     }
     false

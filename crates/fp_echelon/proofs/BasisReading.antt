@@ -1,17 +1,22 @@
 -- What is read of a basis in memory, and what a reduction by it leaves.
-use Rattle.std.proofs.Common.{◌≡◌, ℕ, zero, suc, ◌+◌, ◌-◌, ◌<◌, ◌≤◌, List, [], ◌∷◌, ◌++◌, length, take, get_or, refl, ap, ap₂, sym, ◌∙◌, subst, arith}
+use Rattle.std.proofs.Common.{◌≡◌, ℕ, zero, suc, ◌+◌, ◌<◌, ◌≤◌, List, [], ◌∷◌, length, take, get_or, refl, ap, sym, ◌∙◌, subst, arith}
 use Rattle.std.proofs.lemmas.List.{length-take-le, get_or-take}
 use Rattle.fp_rows.specs.Rows.{IsRow}
-use Rattle.fp_rows.specs.Row.{PrimeRow}
-use Rattle.fp_echelon.specs.Reduced.{BasisRow, IsPivot, at_pivot, IsRepresentative}
+use Rattle.fp_rows.specs.Row.{PrimeRow, IsZeroRow}
+use Rattle.fp_rows.proofs.EntryLaws.{IsZeroRow-is_zeros}
+use Rattle.pq_base.specs.Elementary.{zeros}
+use Rattle.fp_echelon.specs.Span.{InSpan}
+use Rattle.fp_echelon.specs.Reduced.{IsPivot, at_pivot, IsRepresentative}
 use Rattle.fp_echelon.specs.Reduction.{reduce_by}
 use Rattle.fp_echelon.specs.Basis.{Echelon, IsBasis}
-use Rattle.fp_echelon.specs.Slots.{Slot, AreSlots, HavePivots, HoldsBasis, echelon_of, seen, all_seen, all_added}
+use Rattle.fp_echelon.specs.Slots.{Slot, AreSlots, HavePivots, HoldsBasis, echelon_of, all_seen, all_added}
 use Rattle.fp_echelon.proofs.SlotLaws.{AreSlots-own, AreSlots-fewer, AreSlots-take, AreSlots-at}
 use Rattle.fp_echelon.proofs.HeldBasis.{length-all_added, length-all_seen, HavePivots-reduced}
 use Rattle.fp_echelon.proofs.RankLaws.{rank-le}
 use Rattle.fp_echelon.proofs.ReductionLaws.{IsRepresentative-reduce_by}
 use Rattle.fp_echelon.proofs.PlaceLaws.{IsPivot-seen}
+use Rattle.fp_echelon.proofs.PivotLaws.{InSpan-from_representative}
+use Rattle.fp_echelon.proofs.BasisLaws.{basis_spans}
 
 added-at : (slots : List Slot) (i : ℕ) (d : Slot) → i < length slots → get_or (all_added slots) i [] ≡ (get_or slots i d).added
 added-at [] i d h = absurd (omega arith)
@@ -96,3 +101,16 @@ module _ (q width rank spare : ℕ) (slots : List Slot) (B : Echelon)
           ∙ ap (λ (E : Echelon). reduce_by B.prime E.rows r.entries) view) in
           subst (λ (l : List ℕ). IsRepresentative B.prime B.width B.rows r.entries l) entries
           (IsRepresentative-reduce_by B.prime B.width (omega arith) B.rows r.entries basis.reduced row')
+
+      -- where nothing is left of the row, it is in the span
+      pub zero_in_span : (new : PrimeRow) → IsRow r.prime (length r.entries) r.entries
+          → new ≡ record { prime = r.prime; entries = reduce_by r.prime (all_seen rank (take rank old)) r.entries }
+          → IsZeroRow new.entries → InSpan B.prime B.width B.added r.entries
+      zero_in_span new row is zero_row =
+          let basis = subst (λ (E : Echelon). IsBasis E) view held.basis in
+          let two = basis.prime in
+          let row' = subst (λ (w : ℕ). IsRow B.prime w r.entries) wide (subst (λ (p : ℕ). IsRow p (length r.entries) r.entries) prime row) in
+          let left = representative_left new row is in
+          (basis_spans B basis r.entries).1
+          (InSpan-from_representative B.prime B.width (omega arith) B.rows r.entries new.entries basis.reduced row' left
+          (IsZeroRow-is_zeros new.entries zero_row ∙ ap zeros left.fits.count))

@@ -17,7 +17,8 @@ use std::alloc::Global;
 use std::marker::Model;
 
 /// A reduced basis of the span of the rows that were added to it. Each of its rows has 1 at its pivot, which is its last
-/// column that isn't 0, and the other rows have 0 there. Columns are counted from 1. Memory is taken by `reserve` alone.
+/// column that isn't 0, and the other rows have 0 there. Columns are counted from 1. Memory is taken by `new` and `reserve`
+/// alone. A row is first reduced by itself in the scratch row: most rows are dependent, and need no coefficients.
 #[derive(Drop)]
 pub struct Basis {
     prime: Prime,
@@ -25,9 +26,11 @@ pub struct Basis {
     rank: u16,
     spare: u16,
     entries: Vec<Entry>,
+    scratch: Row,
 }
 
 impl Model for Basis {
+    ghost use Rattle.std.specs.Prelude.{◌≡◌, length};
     ghost use Rattle.pq_base.specs.Prime.{prime_value};
     ghost use Rattle.fp_echelon.specs.Basis.{Echelon};
     ghost use Rattle.fp_echelon.specs.Slots.{HoldsBasis, echelon_of};
@@ -36,7 +39,10 @@ impl Model for Basis {
 
     ghost view = { λ b. echelon_of (prime_value b.prime) b.width b.rank b.spare b.entries.items };
 
-    ghost invariant = { λ b. HoldsBasis (prime_value b.prime) b.width b.rank b.spare b.entries.items };
+    ghost invariant = { λ b.
+        HoldsBasis (prime_value b.prime) b.width b.rank b.spare b.entries.items
+        × (b.scratch.prime ≡ prime_value b.prime)
+        × (length b.scratch.entries ≡ b.width) };
 }
 
 impl Basis {
@@ -57,6 +63,7 @@ impl Basis {
             rank: 0,
             spare: 0,
             entries: Vec::new(alloc),
+            scratch: Row::zero(alloc, prime, width)?,
         })
     }
 
@@ -89,11 +96,42 @@ impl Basis {
         ensures prime { self.new.prime ≡ self.old.prime }
         ensures width { self.new.width ≡ self.old.width }
     {
-        let rank = self.rank as usize;
         let _basis = self.rank();
-        if row.is_zero() {
+        if row.is_zero() || self.reduces_to_zero(row) {
             return Insertion::Dependent;
         }
+        self.insert_reduced(row)
+    }
+
+    /// Whether a row reduces to the zero row. Coefficients are not made, so that dependent rows cost less.
+    fn reduces_to_zero(&mut self, row: &Row) -> bool
+        requires prime { row.now.prime ≡ self.old.prime }
+        requires width { length row.now.entries ≡ self.old.width }
+        ensures same { self.new ≡ self.old }
+        ensures span { IsTrue result → InSpan self.old.prime self.old.width self.old.added row.now.entries }
+    {
+        let _width = row.width();
+        self.scratch.copy_from(row);
+        elimination::reduce(&self.entries[..self.rank as usize], &mut self.scratch);
+        self.scratch.is_zero()
+    }
+
+    /// Inserts a row, unless it is in the span of the rows that were added, and makes its coefficients.
+    fn insert_reduced(&mut self, row: &Row) -> Insertion
+        requires spare { 1 ≤ self.old.spare }
+        requires prime { row.now.prime ≡ self.old.prime }
+        requires width { length row.now.entries ≡ self.old.width }
+        ensures basis { IsBasis self.new }
+        ensures dependent { IfDependent result (InSpan self.old.prime self.old.width self.old.added row.now.entries) }
+        ensures unchanged { IfDependent result (self.new ≡ self.old) }
+        ensures independent { IfAdded result (λ c. ¬ InSpan self.old.prime self.old.width self.old.added row.now.entries) }
+        ensures added { IfAdded result (λ c. self.new.added ≡ self.old.added ++ row.now.entries ∷ []) }
+        ensures pivot { IfAdded result (λ c. pivots_of self.new.rows ≡ pivots_of self.old.rows ++ c ∷ []) }
+        ensures spare { IfAdded result (λ c. self.new.spare + 1 ≡ self.old.spare) }
+        ensures prime { self.new.prime ≡ self.old.prime }
+        ensures width { self.new.width ≡ self.old.width }
+    {
+        let rank = self.rank as usize;
         match elimination::insert(&mut self.entries, rank, row) {
             None => Insertion::Dependent,
             Some(column) => {

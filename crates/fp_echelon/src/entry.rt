@@ -86,6 +86,8 @@ impl Entry {
     }
 
     /// Adds `k` times another entry, with the first `count` coefficients.
+    // Never inlined, so that the test in `clear_by`, of which most tell that there is nothing to add, is small enough for a loop.
+    #[inline(never)]
     pub fn add_scaled(&mut self, other: &Entry, count: usize, k: u8)
         requires slot { IsSlot self.old.prime (length self.old.row) count self.old }
         requires other { IsSlot self.old.prime (length self.old.row) count other.now }
@@ -114,6 +116,7 @@ impl Entry {
     }
 
     /// Makes the column of the other entry's pivot 0 by means of that entry.
+    #[inline(always)]
     pub fn clear_by(&mut self, other: &Entry, count: usize)
         requires slot { IsSlot self.old.prime (length self.old.row) count self.old }
         requires other { IsSlot self.old.prime (length self.old.row) count other.now }

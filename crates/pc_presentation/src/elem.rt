@@ -1,7 +1,8 @@
 //! Elements: exponents of the generators, and a row over the tails.
 
-ghost use Rattle.std.specs.Prelude.{◌≡◌, ◌≤◌, ◌<◌, ◌+◌, ◌-◌, get_or, length, replicate, slice_set, IfOk};
+ghost use Rattle.std.specs.Prelude.{◌≡◌, ◌≤◌, ◌<◌, ◌+◌, ◌-◌, ◌%◌, get_or, length, replicate, slice_set, IfOk};
 ghost use Rattle.pq_base.specs.Limits.{max_rank};
+ghost use Rattle.pq_base.specs.Prime.{prime_value};
 ghost use Rattle.fp_rows.specs.Rows.{IsRow, add_scaled};
 ghost use Rattle.fp_rows.specs.Row.{IsColumn};
 ghost use Rattle.pc_presentation.specs.Pcp.{unit_row};
@@ -12,8 +13,8 @@ ghost use Rattle.pc_presentation.specs.Tailed.{Element, IsElement, one_of, with_
 use crate::pcp::Pcp;
 use arrayvec::ArrayVec;
 use fp_rows::Row;
-use pq_base::NoMemory;
 use pq_base::limits::RANK;
+use pq_base::{NoMemory, Prime};
 use std::alloc::Global;
 use std::marker::Model;
 
@@ -137,8 +138,8 @@ impl Elem {
         requires { IsColumn self.old.state.row column }
         ensures { self.new ≡ with_state self.old (add_row self.old.prime (unit_row (length self.old.state.row) column) self.old.state) }
     {
-        let sum = self.tails.prime().add(self.tails.get(column), 1);
-        self.tails.set(column, sum);
+        let next = next_residue(self.tails.prime(), self.tails.get(column));
+        self.tails.set(column, next);
     }
 
     /// Adds a row to the tails.
@@ -176,4 +177,13 @@ fn zero_exponents(rank: u16) -> ArrayVec<u8, RANK>
         exponents.push(0);
     }
     exponents
+}
+
+/// A residue and 1, without a division.
+fn next_residue(prime: Prime, residue: u8) -> u8
+    requires { residue < prime_value prime }
+    ensures { result ≡ (residue + 1) % prime_value prime }
+{
+    let next = residue + 1;
+    if next == prime.value() { 0 } else { next }
 }

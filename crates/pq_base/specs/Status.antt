@@ -1,7 +1,7 @@
 -- The numbers of the statuses. 1 is left to a program that can't get its words.
 use Rattle.std.specs.Prelude.{ℕ}
 use Rattle.pq_base.specs.declared.status.Status.{Status}
-use Rattle.pq_base.specs.declared.status.Status.TheVariants.{Done, BadWords, BadText, TooLarge, ReadFault, WriteFault, NoMemory, CertRefused, InputTooLong, NotBuilt}
+use Rattle.pq_base.specs.declared.status.Status.TheVariants.{Done, BadWords, BadText, TooLarge, ReadFault, WriteFault, NoMemory, CertRefused, InputTooLong}
 
 abbrev pub status_number : Status → ℕ
 status_number Done = 0
@@ -13,4 +13,3 @@ status_number WriteFault = 6
 status_number NoMemory = 7
 status_number CertRefused = 8
 status_number InputTooLong = 9
-status_number NotBuilt = 10

@@ -24,8 +24,6 @@ pub enum Status {
     CertRefused,
     /// The input has more bytes than the limit.
     InputTooLong,
-    /// The command isn't built.
-    NotBuilt,
 }
 
 impl Status {
@@ -43,7 +41,6 @@ impl Status {
             Status::NoMemory => 7,
             Status::CertRefused => 8,
             Status::InputTooLong => 9,
-            Status::NotBuilt => 10,
         }
     }
 }

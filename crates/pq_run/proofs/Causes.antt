@@ -1,55 +1,45 @@
--- What a text is refused for, the input that gave it is refused for; and what the input of `quotient P C` is refused for, the command
--- is refused for.
-use Rattle.std.proofs.Common.{◌≡◌, ℕ, List, Option, Some, None, IfSome, Result, IfErr, [], inl, sym, subst}
+-- What a text is refused for, or the presentation that it reads as, the input that gave it is refused for; and what the input of a
+-- command is refused for, the command is refused for.
+use Rattle.std.proofs.Common.{◌≡◌, ℕ, List, Option, Some, None, IfSome, [], inl, sym, subst}
 use Rattle.std.proofs.lemmas.Option.{IfSome_then}
-use Rattle.std.proofs.lemmas.Result.{IfErr-weaker}
 use Rattle.pq_base.specs.declared.prime.Prime.{Prime}
 use Rattle.pq_base.specs.Prime.{prime_value}
-use Rattle.pq_base.specs.LPresentation.{LPresentation}
 use Rattle.derivation_log.specs.declared.source.Run.{Run}
 use Rattle.lpres_reader.specs.declared.refusal.ReadRefusal.{ReadRefusal}
 use Rattle.lpres_reader.specs.declared.refusal.ReadRefusal.TheVariants as reading
-use Rattle.lpres_reader.specs.Reads.{Reads}
 use Rattle.lpres_reader.specs.Refusals.{IsRefusedBy}
-use Rattle.tower.specs.declared.refusal.TowerRefusal.{TowerRefusal}
-use Rattle.tower.specs.declared.refusal.TowerRefusal.TheVariants as tower
-use Rattle.tower.specs.TwoRuns.{IsRefusalOfWhole}
 use Rattle.pq_run.specs.declared.form.Form.{Form}
 use Rattle.pq_run.specs.declared.input.Input.{Input}
 use Rattle.pq_run.specs.declared.input.Input.TheVariants.{Presentation}
 use Rattle.pq_run.specs.declared.refusal.Refusal.{Refusal}
-use Rattle.pq_run.specs.declared.refusal.Refusal.TheVariants.{Words, UnbuiltCommand, ReadFault, InputTooLong, Text, TooLarge, NoMemory}
+use Rattle.pq_run.specs.declared.refusal.Refusal.TheVariants.{Words, ReadFault, InputTooLong, Text, TooLarge, CertificateLine, CertificatePart, NoMemory}
 use Rattle.pq_run.specs.Command.{CommandWords, Asks}
 use Rattle.pq_run.specs.Input.{IsWithin, IsAbove}
 use Rattle.pq_run.specs.Form.{quotient_command}
 use Rattle.pq_run.specs.Texts.{HasLargeRank}
-use Rattle.pq_run.specs.Built.{ReadsInput, IsTooLargeFor}
-use Rattle.pq_run.specs.Refusals.{refusal_of_reading, refusal_of_tower}
+use Rattle.pq_run.specs.Kinds.{ReadsInput, IsTooLargeFor}
+use Rattle.pq_run.specs.Refusals.{refusal_of_reading}
 use Rattle.pq_run.specs.Streams.{Reading}
 use Rattle.pq_run.specs.Cause.{IsReadCause, IsTextCause, HasTextCause, IsInputCause, IsCause}
-use Rattle.pq_run.proofs.QuotientCommands.{input_of-quotient_command, IsBuilt-quotient_command, AtPrimeAndClass-quotient_command}
+use Rattle.pq_run.proofs.QuotientCommands.{input_of-quotient_command, AtPrimeAndClass-quotient_command}
 
 pub reading_cause : (p c : ℕ) (text : List ℕ) (e : ReadRefusal) → IsRefusedBy text e → IsTextCause p c text (refusal_of_reading e)
 reading_cause p c text (reading.Text fault) first = first
 reading_cause p c text reading.NoMemory first = tt
 
-pub tower_cause : (p c : ℕ) (text : List ℕ) (L : LPresentation) (e : TowerRefusal) → Reads text L → IsRefusalOfWhole L p c e
-    → IsTextCause p c text (refusal_of_tower e)
-tower_cause p c text L (tower.TooLarge part k rank) reads cause = record { presentation = L; reads = reads; large = cause }
-tower_cause p c text L tower.NoMemory reads cause = tt
-
 -- what an input is refused for before its text is read
 pub read_cause : (p c : ℕ) (r : Reading) (refusal : Refusal) → IsReadCause Presentation r refusal → IsInputCause p c r refusal
 read_cause p c r Words cause = absurd cause
-read_cause p c r UnbuiltCommand cause = absurd cause
 read_cause p c r ReadFault cause = cause
 read_cause p c r (InputTooLong input) cause = cause
 read_cause p c r (Text fault) cause = absurd cause
 read_cause p c r (TooLarge part k rank) cause = absurd cause
+read_cause p c r (CertificateLine n) cause = absurd cause
+read_cause p c r (CertificatePart run k part) cause = absurd cause
 read_cause p c r NoMemory cause = tt
 
 -- where the text is told to be what was left in the source
-told : (P : List ℕ → Type 0) (text : List ℕ) (left rest : Option (List ℕ)) → IfSome left (λ bytes. (text ≡ bytes) × (rest ≡ Some [])) → P text → IfSome left P
+pub told : (P : List ℕ → Type 0) (text : List ℕ) (left rest : Option (List ℕ)) → IfSome left (λ bytes. (text ≡ bytes) × (rest ≡ Some [])) → P text → IfSome left P
 told P text None rest whole holds = tt
 told P text (Some bytes) rest whole holds = subst P whole.0 holds
 
@@ -59,22 +49,31 @@ module _ (p c : ℕ) (text : List ℕ) (r : Reading) (within : IsWithin Presenta
 
   text_cause : (refusal : Refusal) → IsTextCause p c text refusal → IsInputCause p c r refusal
   text_cause Words cause = absurd cause
-  text_cause UnbuiltCommand cause = absurd cause
   text_cause ReadFault cause = absurd cause
   text_cause (InputTooLong other) cause = absurd cause
   text_cause (Text fault) cause = has_text_cause (Text fault) cause
   text_cause (TooLarge part k rank) cause = has_text_cause (TooLarge part k rank) cause
+  text_cause (CertificateLine n) cause = absurd cause
+  text_cause (CertificatePart run k part) cause = absurd cause
   text_cause NoMemory cause = tt
 
-pub text_causes : {T : Type 0} (p c : ℕ) (text items : List ℕ) (r : Reading) (result : Result T Refusal) → text ≡ items → IsWithin Presentation items
-    → IfSome r.left (λ bytes. (items ≡ bytes) × (r.rest ≡ Some [])) → IfErr result (IsTextCause p c text) → IfErr result (IsInputCause p c r)
-text_causes p c text items r result same within whole causes =
-    IfErr-weaker result (IsTextCause p c text) (IsInputCause p c r)
-    (λ refusal cause. text_cause p c items r within whole refusal (subst (λ (bytes : List ℕ). IsTextCause p c bytes refusal) same cause)) causes
+-- what the text of an input is refused for by the reader, the input is refused for
+pub unread_cause : (text items : List ℕ) (r : Reading) (e : ReadRefusal) → text ≡ items → IsWithin Presentation items
+    → IfSome r.left (λ bytes. (items ≡ bytes) × (r.rest ≡ Some [])) → IsRefusedBy text e → (p c : ℕ)
+    → IsInputCause p c r (refusal_of_reading e)
+unread_cause text items r e same within whole refused p c =
+    text_cause p c items r within whole (refusal_of_reading e)
+    (reading_cause p c items e (subst (λ (bytes : List ℕ). IsRefusedBy bytes e) same refused))
+
+-- what two facts say of the bytes that a source tells
+pub IfSome-both : (P Q R : List ℕ → Type 0) → ((bytes : List ℕ) → P bytes → Q bytes → R bytes) → (left : Option (List ℕ)) → IfSome left P
+    → IfSome left Q → IfSome left R
+IfSome-both P Q R gives None one other = tt
+IfSome-both P Q R gives (Some bytes) one other = gives bytes one other
 
 module _ (words : List (List ℕ)) (p : Prime) (c : ℕ) (form : Form) (spelled : CommandWords words (quotient_command p c form)) where
   reads_presentation : ReadsInput Presentation (quotient_command p c form)
-  reads_presentation = (IsBuilt-quotient_command p c form, input_of-quotient_command p c form)
+  reads_presentation = input_of-quotient_command p c form
 
   asks_presentation : Asks (ReadsInput Presentation) words
   asks_presentation = (quotient_command p c form, spelled, reads_presentation)
@@ -92,7 +91,6 @@ module _ (words : List (List ℕ)) (p : Prime) (c : ℕ) (form : Form) (spelled 
 
   pub input_cause : (r : Reading) (refusal : Refusal) → IsInputCause (prime_value p) c r refusal → IsCause words r refusal
   input_cause r Words cause = absurd cause
-  input_cause r UnbuiltCommand cause = absurd cause
   input_cause r ReadFault cause = ((quotient_command p c form, spelled, (Presentation, reads_presentation)), cause)
   input_cause r (InputTooLong input) cause = (
     subst (λ (x : Input). Asks (ReadsInput x) words) (sym cause.0) asks_presentation,
@@ -104,4 +102,6 @@ module _ (words : List (List ℕ)) (p : Prime) (c : ℕ) (form : Form) (spelled 
     IfSome_then r.left {P = λ bytes. IsWithin Presentation bytes × IsTextCause (prime_value p) c bytes (TooLarge part k rank)}
         {Q = λ bytes. Asks (IsTooLargeFor part k rank bytes) words} cause (asks_too_large part k rank),
   )
-  input_cause r NoMemory cause = (quotient_command p c form, spelled, reads_presentation.0)
+  input_cause r (CertificateLine n) cause = absurd cause
+  input_cause r (CertificatePart run k part) cause = absurd cause
+  input_cause r NoMemory cause = (quotient_command p c form, spelled)

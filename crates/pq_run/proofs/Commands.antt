@@ -4,15 +4,12 @@ use Rattle.std.proofs.lemmas.Fmt.{decimal_injective}
 use Rattle.pq_base.specs.declared.prime.Prime.{Prime}
 use Rattle.pq_base.specs.declared.prime.Prime.TheVariants.{P2, P3, P5, P7}
 use Rattle.pq_base.specs.Prime.{prime_value}
-use Rattle.derivation_log.specs.declared.source.Run.{Run}
 use Rattle.pq_run.specs.declared.command.Command.{Command}
 use Rattle.pq_run.specs.declared.command.Command.TheVariants.{Quotient, Json, Certify, Check, Sample}
 use Rattle.pq_run.specs.declared.input.Input.{Input}
-use Rattle.pq_run.specs.declared.input.Input.TheVariants.{Presentation}
 use Rattle.pq_run.specs.Command.{command_words, CommandWords, AreCommandWords, IsInRange, Asks, AtPrimeAndClass, AtSample}
 use Rattle.pq_run.specs.Input.{IsAbove}
-use Rattle.pq_run.specs.SampleRanks.{HasLargeSampleRank}
-use Rattle.pq_run.specs.Built.{IsBuilt, IsUnbuilt, ReadsInput, IsReading, IsTooLong, IsGiven, IsLargeSampleFor}
+use Rattle.pq_run.specs.Kinds.{ReadsInput, IsReading, IsTooLong, IsGiven}
 
 -- word number i, counted from 0
 abbrev word : ℕ → List (List ℕ) → List ℕ
@@ -95,9 +92,6 @@ Asks-words K words a = (a.0, a.1)
 pub Asks-weaker : (K M : Command → Type 0) (words : List (List ℕ)) → ((c : Command) → K c → M c) → Asks K words → Asks M words
 Asks-weaker K M words gives a = (a.0, a.1, gives a.0 a.2)
 
-pub Asks-built : (input : Input) (words : List (List ℕ)) → Asks (ReadsInput input) words → Asks IsBuilt words
-Asks-built input words a = Asks-weaker (ReadsInput input) IsBuilt words (λ c k. k.0) a
-
 -- words that spell a command, which is told by its parts
 pub spelled-same : (words : List (List ℕ)) (c d : Command) → CommandWords words d → d ≡ c → CommandWords words c
 spelled-same words c d spelled same = subst (CommandWords words) same spelled
@@ -109,13 +103,6 @@ Asks-same K words c d spelled same is = (c, subst (CommandWords words) same spel
 -- words that ask for two kinds of command ask for one command of both kinds
 pub Asks-apart : (K M : Command → Type 0) (words : List (List ℕ)) → ((c : Command) → K c → M c → ⊥) → Asks K words → Asks M words → ⊥
 Asks-apart K M words apart a b = apart b.0 (subst K (one_command words a.0 b.0 a.1 b.1) a.2) b.2
-
-pub unbuilt-not_built : (c : Command) → IsUnbuilt c → IsBuilt c → ⊥
-unbuilt-not_built (Quotient p c) u b = u
-unbuilt-not_built (Json p c) u b = u
-unbuilt-not_built (Certify p c) u b = b
-unbuilt-not_built Check u b = b
-unbuilt-not_built (Sample n) u b = u
 
 -- what follows from what holds of the prime and the class of a command
 pub AtPrimeAndClass-gives : (P : ℕ → ℕ → Type 0) (X : Type 0) → ((p c : ℕ) → P p c → X) → (command : Command) → AtPrimeAndClass P command → X
@@ -150,37 +137,27 @@ AtSample-weaker P Q gives (Certify p c) holds = holds
 AtSample-weaker P Q gives Check holds = holds
 AtSample-weaker P Q gives (Sample n) holds = gives n holds
 
--- a command for a sample is built
-pub AtSample-built : (P : ℕ → Type 0) (command : Command) → AtSample P command → IsBuilt command
-AtSample-built P (Quotient p c) holds = absurd holds
-AtSample-built P (Json p c) holds = absurd holds
-AtSample-built P (Certify p c) holds = absurd holds
-AtSample-built P Check holds = absurd holds
-AtSample-built P (Sample n) holds = tt
-
-pub Asks-large-built : (part : Run) (k r : ℕ) (words : List (List ℕ)) → Asks (IsLargeSampleFor part k r) words → Asks IsBuilt words
-Asks-large-built part k r words a =
-    Asks-weaker (IsLargeSampleFor part k r) IsBuilt words (λ c l. AtSample-built (HasLargeSampleRank k r) c l.1) a
-
 -- a command for a sample reads nothing
 pub reading-not_sample : (P : ℕ → Type 0) (command : Command) → IsReading command → AtSample P command → ⊥
 reading-not_sample P (Quotient p c) reads holds = holds
 reading-not_sample P (Json p c) reads holds = holds
 reading-not_sample P (Certify p c) reads holds = holds
 reading-not_sample P Check reads holds = holds
-reading-not_sample P (Sample n) reads holds = none reads.0 reads.1.1
+reading-not_sample P (Sample n) reads holds = none reads.0 reads.1
   where
     none : (input : Input) → None ≡ Some input → ⊥
     none input e = cc
 
--- the length of an input is within its limit or not
-pub too_long-not_given : (bytes : List ℕ) (c : Command) → IsTooLong bytes c → IsGiven bytes c → ⊥
-too_long-not_given bytes c long given =
-    let same : Some long.0 ≡ Some Presentation = sym long.1.1 ∙ given.0.1 in
-    beyond long.0 (Some-injective long.0 Presentation same) long.2
-  where
-    Some-injective : (x y : Input) → Some x ≡ Some y → x ≡ y
-    Some-injective x y e = cc
+Some-injective : (x y : Input) → Some x ≡ Some y → x ≡ y
+Some-injective x y e = cc
 
-    beyond : (input : Input) → input ≡ Presentation → IsAbove input bytes → ⊥
-    beyond input e above = let here : IsAbove Presentation bytes = subst (λ (x : Input). IsAbove x bytes) e above in omega (arith, given.1)
+-- a command reads one input
+pub one_input : (one other : Input) (c : Command) → ReadsInput one c → ReadsInput other c → one ≡ other
+one_input one other c x y = Some-injective one other (sym x ∙ y)
+
+-- the length of an input is within its limit or not
+pub too_long-not_given : (bytes : List ℕ) (input : Input) (c : Command) → IsTooLong bytes c → IsGiven input bytes c → ⊥
+too_long-not_given bytes input c long given = beyond long.0 (one_input long.0 input c long.1 given.0) long.2
+  where
+    beyond : (other : Input) → other ≡ input → IsAbove other bytes → ⊥
+    beyond other e above = let here : IsAbove input bytes = subst (λ (x : Input). IsAbove x bytes) e above in omega (arith, given.1)

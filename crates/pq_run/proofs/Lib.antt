@@ -2,8 +2,12 @@ pub mod Numbers
 pub mod Commands
 pub mod QuotientCommands
 pub mod Texts
+pub mod CheckedTexts
 pub mod Outputs
+pub mod CertifiedOutputs
 pub mod OneOutputs
+pub mod CheckedOutputs
+pub mod CheckEnds
 pub mod Headlines
 pub mod WordsEnds
 pub mod InputEnds

@@ -1,5 +1,5 @@
 -- A command that came to its output ends with it, or with a first part of it because the sink failed.
-use Rattle.std.proofs.Common.{◌≡◌, ◌⊎◌, ℕ, List, Option, Some, None, IfSome, [], inl, inr, sym, subst}
+use Rattle.std.proofs.Common.{◌≡◌, ◌⊎◌, ℕ, List, Option, Some, IfSome, [], inl, inr, sym, subst}
 use Rattle.std.proofs.lemmas.Option.{IfSome_then}
 use Rattle.pq_base.specs.declared.prime.Prime.{Prime}
 use Rattle.pq_base.specs.declared.status.Status.{Status}
@@ -12,21 +12,16 @@ use Rattle.pq_run.specs.declared.input.Input.{Input}
 use Rattle.pq_run.specs.declared.input.Input.TheVariants.{Presentation}
 use Rattle.pq_run.specs.Command.{CommandWords, Asks}
 use Rattle.pq_run.specs.Input.{input_of, read_of, IsReadToEnd, IsWithin}
-use Rattle.pq_run.specs.Form.{quotient_command, written_as}
+use Rattle.pq_run.specs.Form.{quotient_command}
 use Rattle.pq_run.specs.Texts.{HasSmallRanks}
-use Rattle.pq_run.specs.Output.{WritesAnswer}
-use Rattle.pq_run.specs.Built.{IsReading, IsAnswered, IsSample}
+use Rattle.pq_run.specs.Output.{OutputOf}
+use Rattle.pq_run.specs.Kinds.{IsReading, IsAnswered, IsSample}
 use Rattle.pq_run.specs.Streams.{Reading, Writing}
 use Rattle.pq_run.specs.Ends.{HasWritten, CameToOutput, Ends}
 use Rattle.pq_run.specs.Ends.Ends.{done, cut}
 use Rattle.pq_run.proofs.Commands.{Asks-apart, reading-not_sample}
-use Rattle.pq_run.proofs.QuotientCommands.{input_of-quotient_command, IsBuilt-quotient_command, AtPrimeAndClass-quotient_command, OutputOf-quotient_command}
-
--- what two facts say of the bytes that a source tells
-IfSome-both : (P Q R : List ℕ → Type 0) → ((bytes : List ℕ) → P bytes → Q bytes → R bytes) → (left : Option (List ℕ)) → IfSome left P → IfSome left Q
-    → IfSome left R
-IfSome-both P Q R gives None one other = tt
-IfSome-both P Q R gives (Some bytes) one other = gives bytes one other
+use Rattle.pq_run.proofs.Causes.{IfSome-both}
+use Rattle.pq_run.proofs.QuotientCommands.{input_of-quotient_command, AtPrimeAndClass-quotient_command}
 
 -- a sink took an output, or a proper prefix of it because it failed
 abbrev pub Took : Writing → Status → List ℕ → Type 0
@@ -43,32 +38,32 @@ module _ (words : List (List ℕ)) (p : Prime) (c : ℕ) (form : Form) (spelled 
   answered bytes within small = (
     quotient_command p c form,
     spelled,
-    (
-      ((IsBuilt-quotient_command p c form, input_of-quotient_command p c form), within),
+    inl (
+      (input_of-quotient_command p c form, within),
       AtPrimeAndClass-quotient_command (λ q d. HasSmallRanks q d bytes) p c form small,
     ),
   )
 
   reading : Asks IsReading words
-  reading = (quotient_command p c form, spelled, (Presentation, (IsBuilt-quotient_command p c form, input_of-quotient_command p c form)))
+  reading = (quotient_command p c form, spelled, (Presentation, input_of-quotient_command p c form))
 
   came : IfSome r.left (IsWithin Presentation) → IfSome r.left (HasSmallRanks (prime_value p) c) → CameToOutput words r
   came within small = record {
-    built = (quotient_command p c form, spelled, IsBuilt-quotient_command p c form);
+    command = (quotient_command p c form, spelled);
     answered = λ reads.
         IfSome-both (IsWithin Presentation) (HasSmallRanks (prime_value p) c) (λ bytes. Asks (IsAnswered bytes) words) answered r.left within small;
     sample = λ asks. absurd (Asks-apart IsReading IsSample words (reading-not_sample (λ n. Unit {0})) reading asks);
   }
 
-  written_so : (output : List ℕ) (P : List ℕ → Type 0) → IfSome r.left (λ text. WritesAnswer (prime_value p) c (written_as form) text output) → P output
+  written_so : (output : List ℕ) (P : List ℕ → Type 0) → IfSome r.left (λ text. OutputOf (quotient_command p c form) text output) → P output
       → IfSome (read_of (input_of (quotient_command p c form)) r.left) (λ bytes. HasWritten words bytes P)
   written_so output P writes holds =
       of_input (λ input. IfSome (read_of input r.left) (λ bytes. HasWritten words bytes P))
-      (IfSome_then r.left {P = λ text. WritesAnswer (prime_value p) c (written_as form) text output} {Q = λ bytes. HasWritten words bytes P} writes
-      (λ bytes w. (output, (quotient_command p c form, spelled, OutputOf-quotient_command p c form bytes output w), holds)))
+      (IfSome_then r.left {P = λ text. OutputOf (quotient_command p c form) text output} {Q = λ bytes. HasWritten words bytes P} writes
+      (λ bytes w. (output, (quotient_command p c form, spelled, w), holds)))
 
   pub output_ends : (output : List ℕ) (w : Writing) (end : Status) → IfSome r.left (λ text. r.rest ≡ Some []) → IfSome r.left (IsWithin Presentation)
-      → IfSome r.left (HasSmallRanks (prime_value p) c) → IfSome r.left (λ text. WritesAnswer (prime_value p) c (written_as form) text output)
+      → IfSome r.left (HasSmallRanks (prime_value p) c) → IfSome r.left (λ text. OutputOf (quotient_command p c form) text output)
       → Took w end output → Ends words r w end
   output_ends output w end read within small writes (inl all) =
       done all.0 (came within small) (record {

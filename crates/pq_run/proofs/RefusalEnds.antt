@@ -4,15 +4,16 @@ use Rattle.std.specs.Global.{Global}
 use Rattle.std.proofs.Common.{◌≡◌, ℕ, List, Result, Ok, Err, IfOk, OnErr, Vec, inl, inr, sym, ap, subst, ◌∙◌}
 use Rattle.pq_base.specs.declared.status.Status.{Status}
 use Rattle.pq_base.specs.declared.status.Status.TheVariants as status
-use Rattle.pq_run.specs.declared.input.Input.TheVariants.{Presentation}
+use Rattle.pq_run.specs.declared.input.Input.TheVariants.{Presentation, Certificate}
 use Rattle.pq_run.specs.declared.refusal.Refusal.{Refusal}
-use Rattle.pq_run.specs.declared.refusal.Refusal.TheVariants.{Words, UnbuiltCommand, ReadFault, InputTooLong, Text, TooLarge, NoMemory}
+use Rattle.pq_run.specs.declared.refusal.Refusal.TheVariants.{Words, ReadFault, InputTooLong, Text, TooLarge, CertificateLine, CertificatePart, NoMemory}
 use Rattle.pq_run.specs.Refusals.{refusal_line, refusal_status}
 use Rattle.pq_run.specs.Streams.{Reading, Writing}
 use Rattle.pq_run.specs.Cause.{IsCause}
 use Rattle.pq_run.specs.Ends.{TakesLine, NeedsMemory, EndsAs, EndsBy, IsDone, IsCut, IsRefused, Ends}
 use Rattle.pq_run.specs.Ends.Ends.{done, cut, refused}
-use Rattle.pq_run.proofs.Commands.{Asks-built, Asks-large-built}
+use Rattle.pq_run.specs.Kinds.{ReadsInput, IsLargeSampleFor}
+use Rattle.pq_run.proofs.Commands.{Asks-words}
 
 pub ends_as : (r told : Refusal) (w : Writing) (end : Status) → r ≡ told → end ≡ refusal_status told → TakesLine w (refusal_line told) → EndsBy r w end
 ends_as r told w end same is line =
@@ -36,12 +37,13 @@ ends_in_memory r told (Err e) w end same needs is takes wanting = ends_by r told
 
 wanting_cause : (words : List (List ℕ)) (r : Reading) (refusal : Refusal) → NeedsMemory refusal → IsCause words r refusal → IsCause words r NoMemory
 wanting_cause words r Words needs cause = absurd needs
-wanting_cause words r UnbuiltCommand needs cause = absurd needs
 wanting_cause words r ReadFault needs cause = absurd needs
 wanting_cause words r (InputTooLong input) needs cause = absurd needs
-wanting_cause words r (Text fault) needs cause = Asks-built Presentation words cause.0
-wanting_cause words r (TooLarge part k rank) needs (inl of_input) = Asks-built Presentation words of_input.0
-wanting_cause words r (TooLarge part k rank) needs (inr of_sample) = Asks-large-built part k rank words of_sample
+wanting_cause words r (Text fault) needs cause = Asks-words (ReadsInput Presentation) words cause.0
+wanting_cause words r (TooLarge part k rank) needs (inl of_input) = Asks-words (ReadsInput Presentation) words of_input.0
+wanting_cause words r (TooLarge part k rank) needs (inr of_sample) = Asks-words (IsLargeSampleFor part k rank) words of_sample
+wanting_cause words r (CertificateLine n) needs cause = Asks-words (ReadsInput Certificate) words cause.0
+wanting_cause words r (CertificatePart run k part) needs cause = Asks-words (ReadsInput Certificate) words cause.0
 wanting_cause words r NoMemory needs cause = absurd needs
 
 pub refuses : (words : List (List ℕ)) (r : Reading) (w : Writing) (end : Status) (refusal : Refusal) → IsCause words r refusal → EndsBy refusal w end
@@ -52,20 +54,22 @@ refuses words r w end refusal cause (inr want) =
 
 not_done : (r : Refusal) → refusal_status r ≡ status.Done → ⊥
 not_done Words e = cc
-not_done UnbuiltCommand e = cc
 not_done ReadFault e = cc
 not_done (InputTooLong input) e = cc
 not_done (Text fault) e = cc
 not_done (TooLarge part k rank) e = cc
+not_done (CertificateLine n) e = cc
+not_done (CertificatePart run k part) e = cc
 not_done NoMemory e = cc
 
 not_cut : (r : Refusal) → refusal_status r ≡ status.WriteFault → ⊥
 not_cut Words e = cc
-not_cut UnbuiltCommand e = cc
 not_cut ReadFault e = cc
 not_cut (InputTooLong input) e = cc
 not_cut (Text fault) e = cc
 not_cut (TooLarge part k rank) e = cc
+not_cut (CertificateLine n) e = cc
+not_cut (CertificatePart run k part) e = cc
 not_cut NoMemory e = cc
 
 cut_or_done : status.WriteFault ≡ status.Done → ⊥

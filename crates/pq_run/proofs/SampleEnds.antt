@@ -6,18 +6,18 @@ use Rattle.pq_base.specs.declared.status.Status.TheVariants as status
 use Rattle.pq_io.specs.Faults.{Rose}
 use Rattle.pq_run.specs.declared.command.Command.{Command}
 use Rattle.pq_run.specs.declared.input.Input.{Input}
-use Rattle.pq_run.specs.declared.input.Input.TheVariants.{Presentation}
+use Rattle.pq_run.specs.declared.input.Input.TheVariants.{Presentation, Certificate}
 use Rattle.pq_run.specs.declared.refusal.Refusal.{Refusal}
-use Rattle.pq_run.specs.declared.refusal.Refusal.TheVariants.{Words, UnbuiltCommand, ReadFault, InputTooLong, Text, TooLarge, NoMemory}
+use Rattle.pq_run.specs.declared.refusal.Refusal.TheVariants.{Words, ReadFault, InputTooLong, Text, TooLarge, CertificateLine, CertificatePart, NoMemory}
 use Rattle.pq_run.specs.Command.{Asks}
 use Rattle.pq_run.specs.SampleRanks.{HasLargeSampleRank, HasSmallSampleRanks}
-use Rattle.pq_run.specs.Built.{IsUnbuilt, ReadsInput, IsReading, IsSample, IsLargeSample, IsSmallSample}
+use Rattle.pq_run.specs.Kinds.{ReadsInput, IsReading, IsSample, IsLargeSample, IsSmallSample}
 use Rattle.pq_run.specs.Refusals.{refusal_status}
 use Rattle.pq_run.specs.Streams.{Reading, Writing}
 use Rattle.pq_run.specs.Cause.{IsCause}
 use Rattle.pq_run.specs.Ends.{Ends}
 use Rattle.pq_run.specs.Ends.Ends.{done, cut, refused}
-use Rattle.pq_run.proofs.Commands.{Asks-words, Asks-weaker, Asks-apart, AtSample-weaker, AtSample-both, AtSample-built, unbuilt-not_built, reading-not_sample}
+use Rattle.pq_run.proofs.Commands.{Asks-words, Asks-weaker, Asks-apart, AtSample-weaker, AtSample-both, reading-not_sample}
 
 large-small : (c : Command) → IsLargeSample c → IsSmallSample c → ⊥
 large-small c large small =
@@ -45,13 +45,13 @@ module _ (words : List (List ℕ)) (r : Reading) (w : Writing) (end : Status) wh
 
   refused_end : (refusal : Refusal) → Asks IsSample words → IsCause words r refusal → end ≡ refusal_status refusal → SampleEnd words w end
   refused_end Words ask cause is = absurd (cause (Asks-words IsSample words ask))
-  refused_end UnbuiltCommand ask cause is =
-      absurd (Asks-apart IsUnbuilt IsSample words (λ c u s. unbuilt-not_built c u (AtSample-built (λ n. Unit {0}) c s)) cause ask)
   refused_end ReadFault ask cause is = absurd (reads_nothing cause.0 ask)
   refused_end (InputTooLong input) ask cause is = absurd (reads_no_input input cause.0 ask)
   refused_end (Text fault) ask cause is = absurd (reads_no_input Presentation cause.0 ask)
   refused_end (TooLarge run k rank) ask (inl of_input) is = absurd (reads_no_input Presentation of_input.0 ask)
   refused_end (TooLarge run k rank) ask (inr of_sample) is = large is (of_sample.0, of_sample.1, (run, k, rank, of_sample.2))
+  refused_end (CertificateLine n) ask cause is = absurd (reads_no_input Certificate cause.0 ask)
+  refused_end (CertificatePart run k judged) ask cause is = absurd (reads_no_input Certificate cause.0 ask)
   refused_end NoMemory ask cause is = wanting is
 
   sample_end : Ends words r w end → Asks IsSample words → SampleEnd words w end

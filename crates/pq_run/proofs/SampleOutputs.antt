@@ -14,10 +14,10 @@ use Rattle.samples.specs.Summary.{summary_text}
 use Rattle.samples.proofs.Samples.{samples_have_one_part}
 use Rattle.pq_run.specs.declared.command.Command.TheVariants.{Sample}
 use Rattle.pq_run.specs.declared.refusal.Refusal.{Refusal}
-use Rattle.pq_run.specs.declared.refusal.Refusal.TheVariants.{Words, UnbuiltCommand, ReadFault, InputTooLong, Text, TooLarge, NoMemory}
+use Rattle.pq_run.specs.declared.refusal.Refusal.TheVariants.{Words, ReadFault, InputTooLong, Text, TooLarge, CertificateLine, CertificatePart, NoMemory}
 use Rattle.pq_run.specs.Command.{CommandWords}
 use Rattle.pq_run.specs.SampleRanks.{HasSmallSampleRanks}
-use Rattle.pq_run.specs.Built.{IsReading, IsSample}
+use Rattle.pq_run.specs.Kinds.{IsReading, IsSample}
 use Rattle.pq_run.specs.Output.{WritesSummary}
 use Rattle.pq_run.specs.Refusals.{refusal_of_tower}
 use Rattle.pq_run.specs.Streams.{Reading, Writing}
@@ -54,16 +54,17 @@ module _ (n : ℕ) (L : LPresentation) (p : ℕ) (same : L ≡ sample_presentati
 module _ (words : List (List ℕ)) (n : ℕ) (spelled : CommandWords words (Sample n)) (r : Reading) where
   pub sample_cause : (refusal : Refusal) → IsSampleCause n refusal → IsCause words r refusal
   sample_cause Words cause = absurd cause
-  sample_cause UnbuiltCommand cause = absurd cause
   sample_cause ReadFault cause = absurd cause
   sample_cause (InputTooLong input) cause = absurd cause
   sample_cause (Text fault) cause = absurd cause
   sample_cause (TooLarge part k rank) cause = inr (Sample n, spelled, cause)
-  sample_cause NoMemory cause = (Sample n, spelled, tt)
+  sample_cause (CertificateLine m) cause = absurd cause
+  sample_cause (CertificatePart run k part) cause = absurd cause
+  sample_cause NoMemory cause = (Sample n, spelled)
 
   came : HasSmallSampleRanks n → CameToOutput words r
   came small = record {
-    built = (Sample n, spelled, tt);
+    command = (Sample n, spelled);
     answered = λ reads. absurd (Asks-apart IsReading IsSample words (reading-not_sample (λ m. Unit {0})) reads (Sample n, spelled, tt));
     sample = λ asks. (Sample n, spelled, small);
   }

@@ -8,7 +8,7 @@ use Rattle.samples.specs.Samples.{sample_presentation, sample_prime, sample_clas
 use Rattle.samples.proofs.Samples.{sample_primes_are_offered}
 use Rattle.pq_run.specs.Texts.{HasLargeRank}
 use Rattle.pq_run.specs.SampleRanks.{HasLargeSampleRank}
-use Rattle.pq_run.specs.Built.{IsTooLargeFor, OneTooLarge, IsLargeSampleFor, OneLargeSample}
+use Rattle.pq_run.specs.Kinds.{IsTooLargeFor, OneTooLarge, IsLargeSampleFor, OneLargeSample}
 use Rattle.pq_run.proofs.Commands.{one_command, AtPrimeAndClass-both, AtSample-both}
 use Rattle.pq_run.proofs.Texts.{one_large_rank, one_large_order}
 

@@ -7,11 +7,11 @@ use Rattle.pq_io.specs.Faults.{Rose}
 use Rattle.pq_io.specs.Writing.{Gains, GainsProperPrefix}
 use Rattle.pq_run.specs.declared.command.Command.{Command}
 use Rattle.pq_run.specs.declared.refusal.Refusal.{Refusal}
-use Rattle.pq_run.specs.declared.refusal.Refusal.TheVariants.{Text, TooLarge, NoMemory}
-use Rattle.pq_run.specs.Command.{CommandWords, Asks}
+use Rattle.pq_run.specs.declared.refusal.Refusal.TheVariants.{Text, TooLarge, CertificateLine, CertificatePart, NoMemory}
+use Rattle.pq_run.specs.Command.{CommandWords, AreCommandWords, Asks}
 use Rattle.pq_run.specs.Input.{input_of, read_of, IsReadToEnd}
-use Rattle.pq_run.specs.Output.{Output}
-use Rattle.pq_run.specs.Built.{IsBuilt, IsReading, IsAnswered, IsSample, IsSmallSample}
+use Rattle.pq_run.specs.Output.{Output, HasOneOutput}
+use Rattle.pq_run.specs.Kinds.{IsReading, IsAnswered, IsSample, IsSmallSample}
 use Rattle.pq_run.specs.Refusals.{refusal_line, refusal_status}
 use Rattle.pq_run.specs.Cause.{IsCause}
 use Rattle.pq_run.specs.Streams.{Reading, Writing}
@@ -35,9 +35,9 @@ pub record IsCut (words : List (List ℕ)) (r : Reading) (w : Writing) : Type 0 
   pub written : IfSome (read_of (input_of command) r.left) (λ bytes. HasWritten words bytes (GainsProperPrefix w.taken w.then))
   pub fault : Rose w.before w.after
 
--- each output of the command for what was read is what was written
+-- each output of the command for what was read is what was written, where a command's output is determined
 abbrev pub IsOnlyOutput : List (List ℕ) → Reading → Writing → Type 0
-IsOnlyOutput words r w = (command : Command) → CommandWords words command
+IsOnlyOutput words r w = (command : Command) → CommandWords words command → HasOneOutput command
     → IfSome (read_of (input_of command) r.left) (λ bytes. (o : List ℕ) → Output words bytes o → Gains w.taken w.then o)
 
 -- a sink took this line, or a proper prefix of it because it failed
@@ -63,16 +63,18 @@ EndsAs refusal w end = (end ≡ refusal_status refusal) × TakesLine w (refusal_
 abbrev pub NeedsMemory : Refusal → Type 0
 NeedsMemory (Text fault) = Unit {0}
 NeedsMemory (TooLarge part k rank) = Unit {0}
+NeedsMemory (CertificateLine n) = Unit {0}
+NeedsMemory (CertificatePart run k part) = Unit {0}
 NeedsMemory _ = ⊥
 
 -- a command ended as this refusal has it, or memory was wanting for its line, and this was told in its place
 abbrev pub EndsBy : Refusal → Writing → Status → Type 0
 EndsBy refusal w end = EndsAs refusal w end ⊎ (NeedsMemory refusal × EndsAs NoMemory w end)
 
--- what is known of a command that came to its output: it is built, and what was read is answered, where it reads an input; the sample
--- has small ranks, where it is one for a sample
+-- what is known of a command that came to its output: what was read is answered, where it reads an input; the sample has small ranks,
+-- where it is one for a sample
 pub record CameToOutput (words : List (List ℕ)) (r : Reading) : Type 0 where
-  pub built : Asks IsBuilt words
+  pub command : AreCommandWords words
   pub answered : Asks IsReading words → IfSome r.left (λ bytes. Asks (IsAnswered bytes) words)
   pub sample : Asks IsSample words → Asks IsSmallSample words
 

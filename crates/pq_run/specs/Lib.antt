@@ -4,8 +4,9 @@ pub mod Input
 pub mod Form
 pub mod Output
 pub mod Texts
+pub mod CheckedTexts
 pub mod SampleRanks
-pub mod Built
+pub mod Kinds
 pub mod Refusals
 pub mod Streams
 pub mod Cause

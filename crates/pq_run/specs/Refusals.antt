@@ -13,11 +13,17 @@ use Rattle.lpres_reader.specs.declared.refusal.ReadRefusal.{ReadRefusal}
 use Rattle.lpres_reader.specs.declared.refusal.ReadRefusal.TheVariants as reading
 use Rattle.derivation_log.specs.declared.source.Run.{Run}
 use Rattle.derivation_log.specs.declared.source.Run.TheVariants as run
+use Rattle.derivation_log.specs.declared.part.Part.{Part}
+use Rattle.derivation_log.specs.declared.part.Part.TheVariants as part
+use Rattle.cert_text.specs.declared.fault.CertFault.{CertFault}
+use Rattle.cert_text.specs.declared.fault.CertFault.TheVariants as certificate
+use Rattle.cert_checker.specs.declared.refusal.CheckRefusal.{CheckRefusal}
+use Rattle.cert_checker.specs.declared.refusal.CheckRefusal.TheVariants as checker
 use Rattle.tower.specs.declared.refusal.TowerRefusal.{TowerRefusal}
 use Rattle.tower.specs.declared.refusal.TowerRefusal.TheVariants as tower
 use Rattle.pq_run.specs.declared.input.Input.{Input}
 use Rattle.pq_run.specs.declared.refusal.Refusal.{Refusal}
-use Rattle.pq_run.specs.declared.refusal.Refusal.TheVariants.{Words, UnbuiltCommand, ReadFault, InputTooLong, Text, TooLarge, NoMemory}
+use Rattle.pq_run.specs.declared.refusal.Refusal.TheVariants.{Words, ReadFault, InputTooLong, Text, TooLarge, CertificateLine, CertificatePart, NoMemory}
 use Rattle.pq_run.specs.Input.{byte_limit}
 
 -- what is limited
@@ -58,22 +64,52 @@ too_large_line part k rank =
     ++ (decimal rank
     ++ (codes " above " ++ (decimal max_rank ++ (codes " at class " ++ (decimal k ++ (codes " of the " ++ (part_text part ++ 10 ∷ [])))))))
 
+-- the bytes are no certificate, and their first fault is at line n
+abbrev pub certificate_line : ℕ → List ℕ
+certificate_line n = codes "refused: certificate line " ++ (decimal n ++ 10 ∷ [])
+
+abbrev pub run_text : Run → List ℕ
+run_text run.Iterated = codes "iterated"
+run_text run.Whole = codes "whole"
+
+-- a part that is judged
+abbrev pub judged_text : Part → List ℕ
+judged_text part.Extra = codes "extra"
+judged_text part.Row = codes "row"
+judged_text part.Sum = codes "sum"
+judged_text part.Rank = codes "rank"
+judged_text part.Short = codes "short"
+judged_text part.Overlap = codes "overlap"
+judged_text part.Iterated = codes "iterated"
+judged_text part.Endo = codes "endo"
+judged_text part.Fixed = codes "fixed"
+judged_text part.Map = codes "map"
+judged_text part.Answer = codes "answer"
+
+-- a part of a certificate fails
+abbrev pub failing_part_line : Run → ℕ → Part → List ℕ
+failing_part_line run k p =
+    codes "refused: certificate run "
+    ++ (run_text run ++ (codes " class " ++ (decimal k ++ (codes " " ++ (judged_text p ++ 10 ∷ [])))))
+
 abbrev pub refusal_line : Refusal → List ℕ
 refusal_line Words = codes "refused: words" ++ 10 ∷ []
-refusal_line UnbuiltCommand = codes "refused: not built: command" ++ 10 ∷ []
 refusal_line ReadFault = codes "refused: read fault" ++ 10 ∷ []
 refusal_line (InputTooLong input) = too_long_line input
 refusal_line (Text fault) = fault_line fault
 refusal_line (TooLarge part k rank) = too_large_line part k rank
+refusal_line (CertificateLine n) = certificate_line n
+refusal_line (CertificatePart run k p) = failing_part_line run k p
 refusal_line NoMemory = codes "refused: no memory" ++ 10 ∷ []
 
 abbrev pub refusal_status : Refusal → Status
 refusal_status Words = status.BadWords
-refusal_status UnbuiltCommand = status.NotBuilt
 refusal_status ReadFault = status.ReadFault
 refusal_status (InputTooLong input) = status.InputTooLong
 refusal_status (Text fault) = status.BadText
 refusal_status (TooLarge part k rank) = status.TooLarge
+refusal_status (CertificateLine n) = status.CertRefused
+refusal_status (CertificatePart run k p) = status.CertRefused
 refusal_status NoMemory = status.NoMemory
 
 -- why an input that wasn't read as a presentation is refused
@@ -85,3 +121,13 @@ refusal_of_reading reading.NoMemory = NoMemory
 abbrev pub refusal_of_tower : TowerRefusal → Refusal
 refusal_of_tower (tower.TooLarge part k rank) = TooLarge part k rank
 refusal_of_tower tower.NoMemory = NoMemory
+
+-- why an input that wasn't read as a certificate is refused
+abbrev pub refusal_of_fault : CertFault → Refusal
+refusal_of_fault (certificate.Line n) = CertificateLine n
+refusal_of_fault certificate.NoMemory = NoMemory
+
+-- why a certificate whose answer isn't given is refused
+abbrev pub refusal_of_check : CheckRefusal → Refusal
+refusal_of_check (checker.Refused run k p) = CertificatePart run k p
+refusal_of_check checker.NoMemory = NoMemory

@@ -30,6 +30,10 @@ pub record HasSmallRanks (p c : ℕ) (bytes : List ℕ) : Type 0 where
   pub small : (k r : ℕ) → k ≤ c → max_rank < r → ¬ HasOrder presentation p k r
   pub small_part : HasSmallPart presentation p c
 
+-- this holds of each text of a presentation
+abbrev pub OfEachText : LPresentation → (List ℕ → Type 0) → Type 0
+OfEachText L P = (text : List ℕ) → Reads text L → P text
+
 -- the bytes have this first fault
 abbrev pub HasFault : TextFault → List ℕ → Type 0
 HasFault fault bytes = FirstFault bytes fault.line (kind_of fault.kind)

@@ -1,10 +1,15 @@
 // What a command reads, and how many bytes that may be.
-ghost use Rattle.std.specs.Prelude.{◌≡◌, ◌+◌, ◌≤◌, Some, [], IfOk, IfErr, IfSome};
+ghost use Rattle.std.specs.Prelude.{◌≡◌, ◌+◌, ◌≤◌, ℕ, Some, [], IfOk, IfErr, IfSome};
+ghost use Rattle.lpres_reader.specs.Reads.{Reads};
+ghost use Rattle.pq_run.specs.declared.input.Input.TheVariants.{Presentation, Certificate};
+ghost use Rattle.cert_text.specs.CertificateText.{certificate_text, IsWritable};
 ghost use Rattle.pq_run.specs.Input.{byte_limit, IsWithin, IsTaken};
 ghost use Rattle.pq_run.specs.Streams.{reading_of};
-ghost use Rattle.pq_run.specs.Cause.{IsReadCause};
+ghost use Rattle.pq_run.specs.Cause.{IsReadCause, IsInputCause, IsCheckCause};
 
 use crate::refusal::Refusal;
+use derivation_log::Cert;
+use lpres_reader::{LPres, read};
 use pq_base::limits::{CERTIFICATE_BYTES, PRESENTATION_BYTES};
 use pq_io::{InputRefusal, Source, read_up_to};
 use std::alloc::Global;
@@ -48,4 +53,32 @@ pub fn read_input<S: Source>(
         Err(InputRefusal::TooLong) => Err(Refusal::InputTooLong(input)),
         Err(InputRefusal::NoMemory) => Err(Refusal::NoMemory),
     }
+}
+
+/// Reads a presentation to its end. Its bytes are let go.
+pub fn read_presentation<S: Source>(alloc: Global, source: &mut S) -> Result<LPres, Refusal>
+    ensures reads { IfOk result (λ pres. IfSome (S.left source.old) (λ text. Reads text pres)) }
+    ensures within { IfOk result (λ pres. IfSome (S.left source.old) (IsWithin Presentation)) }
+    ensures whole { IfOk result (λ pres. IfSome (S.left source.old) (λ text. S.left source.new ≡ Some [])) }
+    ensures err { IfErr result (λ refusal.
+        (p c : ℕ) → IsInputCause p c (reading_of S.left S.faults source.old source.new) refusal) }
+    ensures count { S.faults source.old ≤ S.faults source.new }
+    ensures left { IsTaken (byte_limit Presentation + 1) (S.left source.old) (S.left source.new) }
+{
+    let text = read_input(alloc, Input::Presentation, source)?;
+    Ok(read(alloc, &text)?)
+}
+
+/// Reads a certificate to its end. Its bytes are let go.
+pub fn read_certificate<S: Source>(alloc: Global, source: &mut S) -> Result<Cert, Refusal>
+    ensures reads { IfOk result (λ cert. IfSome (S.left source.old) (λ text. text ≡ certificate_text cert)) }
+    ensures writable { IfOk result IsWritable }
+    ensures within { IfOk result (λ cert. IfSome (S.left source.old) (IsWithin Certificate)) }
+    ensures whole { IfOk result (λ cert. IfSome (S.left source.old) (λ text. S.left source.new ≡ Some [])) }
+    ensures err { IfErr result (IsCheckCause (reading_of S.left S.faults source.old source.new)) }
+    ensures count { S.faults source.old ≤ S.faults source.new }
+    ensures left { IsTaken (byte_limit Certificate + 1) (S.left source.old) (S.left source.new) }
+{
+    let text = read_input(alloc, Input::Certificate, source)?;
+    Ok(cert_text::read(alloc, &text)?)
 }

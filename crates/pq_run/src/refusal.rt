@@ -1,14 +1,17 @@
 // Why a command is refused, and the line that says so.
 ghost use Rattle.std.specs.Prelude.{◌≡◌, ◌≤◌, IfOk, OnErr, IsNone, string_bytes};
 ghost use Rattle.lpres_reader.specs.declared.fault.Kind.TheVariants.{Limit as PastLimit};
-ghost use Rattle.pq_run.specs.Refusals.{refusal_of_reading, refusal_of_tower, refusal_line};
+ghost use Rattle.pq_run.specs.Refusals.{refusal_of_reading, refusal_of_tower, refusal_of_fault, refusal_of_check, refusal_line};
 ghost use Rattle.pq_run.specs.Refusals.{too_long_line, too_large_line, part_text, fault_line, kind_text, limit_text};
+ghost use Rattle.pq_run.specs.Refusals.{certificate_line, failing_part_line, run_text, judged_text};
 ghost use Rattle.pq_run.specs.Streams.{writing_of};
 ghost use Rattle.pq_run.specs.Ends.{TakesLine, EndsBy};
 ghost use Rattle.pq_run.specs.declared.refusal.Refusal.TheVariants.{NoMemory as WantOfMemory};
 
 use crate::input::Input;
-use derivation_log::Run;
+use cert_checker::CheckRefusal;
+use cert_text::CertFault;
+use derivation_log::{Part, Run};
 use lpres_reader::{Kind, ReadRefusal, TextFault, Which};
 use pq_base::limits::RANK;
 use pq_base::{NoMemory, Status};
@@ -21,8 +24,6 @@ use tower::TowerRefusal;
 pub enum Refusal {
     /// The words are no command.
     Words,
-    /// The command isn't built.
-    UnbuiltCommand,
     /// A read failed.
     ReadFault,
     /// The input has more bytes than it may have.
@@ -37,6 +38,17 @@ pub enum Refusal {
         class: u8,
         /// The rank of this quotient.
         rank: u32,
+    },
+    /// The input is no certificate: its first fault is at this line.
+    CertificateLine(u32),
+    /// The input is a certificate that isn't valid: this is its first part that fails.
+    CertificatePart {
+        /// The run that is judged.
+        run: Run,
+        /// The class that is judged.
+        class: u8,
+        /// The part that fails.
+        part: Part,
     },
     /// Nothing could be allocated.
     NoMemory,
@@ -64,6 +76,30 @@ impl From<TowerRefusal> for Refusal {
     }
 }
 
+impl From<CertFault> for Refusal {
+    ghost from_gives = { λ fault e. e ≡ refusal_of_fault fault };
+
+    fn from(fault: CertFault) -> Refusal {
+        match fault {
+            CertFault::Line(line) => Refusal::CertificateLine(line),
+            CertFault::NoMemory => Refusal::NoMemory,
+        }
+    }
+}
+
+impl From<CheckRefusal> for Refusal {
+    ghost from_gives = { λ refused e. e ≡ refusal_of_check refused };
+
+    fn from(refused: CheckRefusal) -> Refusal {
+        match refused {
+            CheckRefusal::Refused { run, class, part } => {
+                Refusal::CertificatePart { run, class, part }
+            }
+            CheckRefusal::NoMemory => Refusal::NoMemory,
+        }
+    }
+}
+
 impl From<NoMemory> for Refusal {
     ghost from_gives = { λ _ e. e ≡ WantOfMemory };
 
@@ -72,8 +108,8 @@ impl From<NoMemory> for Refusal {
     }
 }
 
-/// Writes the line of a refusal, and gives its status, also where the sink fails. Only the lines of a text's fault and of a
-/// rank that is too large need memory; where it is wanting, that is told in their place.
+/// Writes the line of a refusal, and gives its status, also where the sink fails. Only the lines of a fault, of a rank that is
+/// too large and of a part that fails need memory; where it is wanting, that is told in their place.
 pub fn refuse<K: Sink>(alloc: Global, sink: &mut K, refusal: Refusal) -> Status
     ensures ends { EndsBy refusal (writing_of K.taken K.faults sink.old sink.new) result }
     ensures count { K.faults sink.old ≤ K.faults sink.new }
@@ -81,9 +117,6 @@ pub fn refuse<K: Sink>(alloc: Global, sink: &mut K, refusal: Refusal) -> Status
 {
     match refusal {
         Refusal::Words => refuse_by(sink, b"refused: words\n", Status::BadWords),
-        Refusal::UnbuiltCommand => {
-            refuse_by(sink, b"refused: not built: command\n", Status::NotBuilt)
-        }
         Refusal::ReadFault => refuse_by(sink, b"refused: read fault\n", Status::ReadFault),
         Refusal::InputTooLong(input) => {
             refuse_by(sink, too_long_line(input), Status::InputTooLong)
@@ -92,6 +125,13 @@ pub fn refuse<K: Sink>(alloc: Global, sink: &mut K, refusal: Refusal) -> Status
         Refusal::TooLarge { part, class, rank } => {
             let line = too_large_line(alloc, part, class, rank);
             refuse_in_memory(sink, line, Status::TooLarge)
+        }
+        Refusal::CertificateLine(number) => {
+            refuse_in_memory(sink, certificate_line(alloc, number), Status::CertRefused)
+        }
+        Refusal::CertificatePart { run, class, part } => {
+            let line = failing_part_line(alloc, run, class, part);
+            refuse_in_memory(sink, line, Status::CertRefused)
         }
         Refusal::NoMemory => refuse_by(sink, b"refused: no memory\n", Status::NoMemory),
     }
@@ -155,6 +195,53 @@ fn part_text(part: Run) -> &'static str
     match part {
         Run::Iterated => "iterated part",
         Run::Whole => "whole",
+    }
+}
+
+/// The line that says where bytes that are no certificate have their first fault.
+fn certificate_line(alloc: Global, number: u32) -> Result<Vec<u8>, NoMemory>
+    ensures { IfOk result (λ line. line.items ≡ certificate_line number) }
+{
+    let text = format!(in alloc; "refused: certificate line {number}\n")?;
+    Ok(text.into_bytes())
+}
+
+/// The line that says which part of a certificate is the first that fails.
+fn failing_part_line(alloc: Global, run: Run, class: u8, part: Part) -> Result<Vec<u8>, NoMemory>
+    ensures { IfOk result (λ line. line.items ≡ failing_part_line run class part) }
+{
+    let run = run_text(run);
+    let part = judged_text(part);
+    let text = format!(in alloc; "refused: certificate run {run} class {class} {part}\n")?;
+    Ok(text.into_bytes())
+}
+
+/// The run of a certificate.
+fn run_text(run: Run) -> &'static str
+    ensures { result.now ≡ run_text run }
+{
+    match run {
+        Run::Iterated => "iterated",
+        Run::Whole => "whole",
+    }
+}
+
+/// The part of a certificate.
+fn judged_text(part: Part) -> &'static str
+    ensures { result.now ≡ judged_text part }
+{
+    match part {
+        Part::Extra => "extra",
+        Part::Row => "row",
+        Part::Sum => "sum",
+        Part::Rank => "rank",
+        Part::Short => "short",
+        Part::Overlap => "overlap",
+        Part::Iterated => "iterated",
+        Part::Endo => "endo",
+        Part::Fixed => "fixed",
+        Part::Map => "map",
+        Part::Answer => "answer",
     }
 }
 

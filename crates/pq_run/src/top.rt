@@ -2,17 +2,18 @@
 ghost use Rattle.std.specs.Prelude.{◌≡◌, ◌≢◌, ◌+◌, ◌⊎◌, ◌↔◌, ◌≤◌, ℕ, List, IfSome, IsNone};
 ghost use Rattle.pq_io.specs.Faults.{Rose};
 ghost use Rattle.pq_io.specs.Writing.{Gains, GainsProperPrefix};
-ghost use Rattle.pq_run.specs.declared.input.Input.TheVariants.{Presentation};
+ghost use Rattle.pq_run.specs.declared.input.Input.TheVariants.{Presentation, Certificate};
 ghost use Rattle.pq_run.specs.Command.{IsClass, AreCommandWords, CommandWords, Asks};
 ghost use Rattle.pq_run.specs.Input.{byte_limit, IsTaken, IsTakenBy};
 ghost use Rattle.pq_run.specs.Form.{quotient_command};
 ghost use Rattle.samples.specs.Samples.{max_sample};
-ghost use Rattle.pq_run.specs.declared.command.Command.TheVariants.{Sample};
-ghost use Rattle.pq_run.specs.Built.{IsUnbuilt, IsReading, IsTooLong, IsBadText, IsTooLarge, IsAnswered, IsLargeSample, IsSmallSample};
+ghost use Rattle.pq_run.specs.declared.command.Command.TheVariants.{Check, Sample};
+ghost use Rattle.pq_run.specs.Kinds.{IsReading, IsTooLong, IsBadText, IsTooLarge, IsCertRefused, IsAnswered, IsLargeSample, IsSmallSample};
 ghost use Rattle.pq_run.specs.Streams.{Reading, reading_of, writing_of};
 ghost use Rattle.pq_run.specs.Ends.{IsDone, IsOnlyOutput, IsCut, IsRefused, IsDecided, Ends};
 ghost use Rattle.pq_run.specs.Headline.{Headline};
 
+use crate::check_output::output_of_certificate;
 use crate::command::{Command, parse_words};
 use crate::form::Form;
 use crate::output::output_of_source;
@@ -25,7 +26,7 @@ use std::alloc::Global;
 
 /// Carries out the command that the words spell: reads its input to the end and writes its output, or a line that says why
 /// the command is refused. The line is written as far as the sink takes it.
-/// Built so far: `quotient P C`, `quotient P C json` and `sample N`, which reads nothing.
+/// The commands are `quotient P C`, `quotient P C json`, `certify P C`, `check` and `sample N`, which reads nothing.
 pub fn run<S: Source, K: Sink>(alloc: Global, words: &Words, source: &mut S, sink: &mut K) -> Status
     // With status 0, `quotient P C` has read one presentation to its end, and has written its largest quotient: line by line.
     ensures headline { result ≡ Status.Done
@@ -35,7 +36,7 @@ pub fn run<S: Source, K: Sink>(alloc: Global, words: &Words, source: &mut S, sin
     ensures done { result ≡ Status.Done
         → IsDone words.now (reading_of S.left S.faults source.old source.new) (writing_of K.taken K.faults sink.old sink.new) }
 
-    // That output is the only one: the words and what was read determine it.
+    // That output is the only one, but for `certify P C`: the words and what was read determine it.
     ensures only { result ≡ Status.Done
         → IsOnlyOutput words.now (reading_of S.left S.faults source.old source.new) (writing_of K.taken K.faults sink.old sink.new) }
 
@@ -49,7 +50,6 @@ pub fn run<S: Source, K: Sink>(alloc: Global, words: &Words, source: &mut S, sin
 
     // What the words alone decide needs no memory, and leaves the source as it was.
     ensures bad_words { (result ≡ Status.BadWords) ↔ (¬ AreCommandWords words.now) }
-    ensures command { Asks IsUnbuilt words.now → result ≡ Status.NotBuilt }
     ensures untouched { ¬ Asks IsReading words.now → S.left source.new ≡ S.left source.old }
     ensures uncounted { ¬ Asks IsReading words.now → S.faults source.new ≡ S.faults source.old }
 
@@ -58,8 +58,11 @@ pub fn run<S: Source, K: Sink>(alloc: Global, words: &Words, source: &mut S, sin
     ensures bad_text { IfSome (S.left source.old) (λ bytes. Asks (IsBadText bytes) words.now → IsDecided Status.BadText result) }
     ensures too_large { IfSome (S.left source.old) (λ bytes. Asks (IsTooLarge bytes) words.now → IsDecided Status.TooLarge result) }
 
-    // Where nothing fails and the input is one that is answered, as each is whose largest quotients have ranks within the limit,
-    // those of its iterated part too where that is computed first, the command is done, unless memory is wanting.
+    ensures cert_refused { IfSome (S.left source.old) (λ bytes. Asks (IsCertRefused bytes) words.now → IsDecided Status.CertRefused result) }
+
+    // Where nothing fails and the input is one that is answered, as each presentation is whose largest quotients have ranks within the
+    // limit, those of its iterated part too where that is computed first, and each valid certificate, the command is done, unless memory
+    // is wanting.
     ensures complete { IfSome (S.left source.old) (λ bytes. Asks (IsAnswered bytes) words.now
         → ¬ Rose (S.faults source.old) (S.faults source.new) → ¬ Rose (K.faults sink.old) (K.faults sink.new)
         → (result ≡ Status.Done) ⊎ (result ≡ Status.NoMemory)) }
@@ -100,13 +103,15 @@ fn carry_out<S: Source, K: Sink>(
         Some(Command::Json(prime, class)) => {
             quotient(alloc, prime, class, Form::Json, source, sink)
         }
-        Some(Command::Certify(..)) => refuse(alloc, sink, Refusal::UnbuiltCommand),
-        Some(Command::Check) => refuse(alloc, sink, Refusal::UnbuiltCommand),
+        Some(Command::Certify(prime, class)) => {
+            quotient(alloc, prime, class, Form::Certificate, source, sink)
+        }
+        Some(Command::Check) => check(alloc, source, sink),
         Some(Command::Sample(n)) => summarize(alloc, n, sink),
     }
 }
 
-/// Reads a presentation and writes the answer that is asked for.
+/// Reads a presentation and writes its answer in the form that is asked for.
 fn quotient<S: Source, K: Sink>(
     alloc: Global,
     prime: Prime,
@@ -124,6 +129,21 @@ fn quotient<S: Source, K: Sink>(
     ensures silent { IsNone (K.taken sink.old) → IsNone (K.taken sink.new) }
 {
     match output_of_source(alloc, prime, class, form, source) {
+        Ok(bytes) => finish(sink, &bytes),
+        Err(refusal) => refuse(alloc, sink, refusal),
+    }
+}
+
+/// Reads a certificate and writes its answer where it is valid.
+fn check<S: Source, K: Sink>(alloc: Global, source: &mut S, sink: &mut K) -> Status
+    ensures ends { (words : List (List ℕ)) → CommandWords words Check
+        → Ends words (reading_of S.left S.faults source.old source.new) (writing_of K.taken K.faults sink.old sink.new) result }
+    ensures read_count { S.faults source.old ≤ S.faults source.new }
+    ensures write_count { K.faults sink.old ≤ K.faults sink.new }
+    ensures left { IsTaken (byte_limit Certificate + 1) (S.left source.old) (S.left source.new) }
+    ensures silent { IsNone (K.taken sink.old) → IsNone (K.taken sink.new) }
+{
+    match output_of_certificate(alloc, source) {
         Ok(bytes) => finish(sink, &bytes),
         Err(refusal) => refuse(alloc, sink, refusal),
     }

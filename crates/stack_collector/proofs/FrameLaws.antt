@@ -86,6 +86,9 @@ within-alone T f g e element h = record { element = element; frame = h.frame; ge
 abbrev pub with_syllable : Frame → Syllable → Frame
 with_syllable f s = record f { letter = s.generator; copies = s.exponent; place = f.place + 1 }
 
+abbrev pub with_place : Frame → ℕ → Frame
+with_place f m = record f { place = m }
+
 abbrev pub with_exponent_taken : Frame → ℕ → ℕ → Frame
 with_exponent_taken f m x = record f { times = x; next = m + 1 }
 

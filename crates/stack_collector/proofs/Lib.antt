@@ -3,3 +3,4 @@ pub mod FrameLaws
 pub mod StepsInTurn
 pub mod Passes
 pub mod StackLaws
+pub mod WordLaws

@@ -1,9 +1,8 @@
 //! Frames: what a push that was begun still owes.
 
-ghost use Rattle.std.specs.Prelude.{◌≡◌, ◌≤◌, ◌<◌, ◌-◌, ℕ, get_or, length, replicate};
+ghost use Rattle.std.specs.Prelude.{◌≡◌, ◌≤◌, ◌<◌, ℕ, get_or, length};
 ghost use Rattle.pc_presentation.specs.Pcp.{IsTailedPresentation};
 ghost use Rattle.pc_presentation.specs.Collection.{plain_push};
-ghost use Rattle.pc_presentation.specs.Tailed.{rowed_presentation, Element};
 ghost use Rattle.stack_collector.specs.Frames.{side_word, pushed, finished, IsFrame};
 ghost use Rattle.stack_collector.specs.FrameSteps.{GoesOn};
 
@@ -14,7 +13,7 @@ use pq_base::limits::RANK;
 /// letter, then what is left of the word of a relation, then the later letters that were set aside, each to be passed.
 #[derive(Clone, Copy, Debug)]
 pub(crate) struct Frame {
-    /// The generator that was pushed. It is 0 below all, where letters are pushed that pass nothing.
+    /// The generator that was pushed.
     pub(crate) generator: u16,
     /// Copies of this letter are to be pushed first.
     pub(crate) letter: u16,
@@ -32,46 +31,6 @@ pub(crate) struct Frame {
 }
 
 impl Frame {
-    /// Copies of a generator, and nothing else.
-    pub(crate) fn of_copies(pcp: &Pcp, generator: u16, copies: u8) -> Frame
-        requires presentation { IsTailedPresentation pcp.now }
-        requires from_one { 1 ≤ generator }
-        requires in_range { generator ≤ pcp.now.presentation.rank }
-        ensures frame { IsFrame pcp.now result }
-        ensures copies { (e : Element) →
-            finished pcp.now result e ≡ pushed pcp.now e (replicate copies (generator - 1)) }
-    {
-        let relation = Relation::Power(generator);
-        let syllables = pcp.word(relation).len();
-        Frame {
-            generator: 0,
-            letter: generator,
-            copies,
-            relation,
-            place: syllables,
-            syllables,
-            next: 0,
-            times: 0,
-            later: [0; RANK],
-            end: 0,
-        }
-    }
-
-    /// Takes the next syllable of the word.
-    pub(crate) fn take_syllable(&mut self, pcp: &Pcp)
-        requires presentation { IsTailedPresentation pcp.now }
-        requires frame { IsFrame pcp.now self.old }
-        requires none_before { self.old.copies ≡ 0 }
-        requires more { self.old.place < length (side_word pcp.now self.old.relation) }
-        ensures on { GoesOn pcp.now self.old self.new }
-        ensures some { 1 ≤ self.new.copies }
-    {
-        let syllable = pcp.word(self.relation)[self.place];
-        self.letter = syllable.generator;
-        self.copies = syllable.exponent;
-        self.place += 1;
-    }
-
     /// Takes the next exponent that was set aside and isn't 0, or the last.
     pub(crate) fn take_exponent(&mut self, pcp: &Pcp)
         requires presentation { IsTailedPresentation pcp.now }

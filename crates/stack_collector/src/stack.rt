@@ -2,12 +2,12 @@
 
 ghost use Rattle.std.specs.Prelude.{◌≡◌, ◌≤◌, ◌<◌, ◌-◌, [], ◌∷◌, ◌++◌, length, replicate, option_to_list, IsTrue, IsFalse, IsNone};
 ghost use Rattle.pc_presentation.specs.Collection.{plain_push};
-ghost use Rattle.pc_presentation.specs.Tailed.{rowed_presentation, IsElement};
+ghost use Rattle.pc_presentation.specs.Tailed.{rowed_presentation, IsElement, with_state};
 ghost use Rattle.stack_collector.specs.Frames.{pushed, finished, IsFrame};
 ghost use Rattle.stack_collector.specs.Stacks.{IsReady, IsRunning, Continues, HasEnded};
 
 use crate::frame::Frame;
-use crate::steps::{Progress, begin, run};
+use crate::steps::{Progress, add_copies, begin, run};
 use pc_presentation::{Collect, Elem, Pcp, Syllable, add_tail};
 use pq_base::NoMemory;
 use std::alloc::Global;
@@ -70,7 +70,24 @@ impl Stack {
         ensures element { IsElement pcp.now at.new }
         ensures pushed { at.new ≡ pushed pcp.now at.old (replicate copies (generator - 1)) }
     {
-        self.put(Frame::of_copies(pcp, generator, copies));
+        let mut left = add_copies(pcp, at, generator, copies);
+        while left > 0 {
+            self.push_one(pcp, at, generator);
+            left = add_copies(pcp, at, generator, left - 1);
+        }
+    }
+
+    /// Pushes a generator, counted from 1, by frames.
+    fn push_one(&mut self, pcp: &Pcp, at: &mut Elem, generator: u16)
+        requires ready { IsReady self.old pcp.now.presentation.rank }
+        requires element { IsElement pcp.now at.old }
+        requires from_one { 1 ≤ generator }
+        requires in_range { generator ≤ pcp.now.presentation.rank }
+        ensures ready { IsReady self.new pcp.now.presentation.rank }
+        ensures element { IsElement pcp.now at.new }
+        ensures pushed { at.new ≡ with_state at.old (plain_push (rowed_presentation pcp.now) at.old.state (generator - 1)) }
+    {
+        self.put(begin(pcp, at, generator));
         while self.advance(pcp, at) {}
     }
 
@@ -99,9 +116,6 @@ impl Stack {
         ensures frames { self.new.frames ≡ self.old.frames ++ frame ∷ [] }
         ensures room { self.old.room ≤ self.new.room }
     {
-        match self.frames.push(frame) {
-            Ok(()) => (),
-            Err(_) => unreachable!(),
-        }
+        self.frames.push_reserved(frame);
     }
 }

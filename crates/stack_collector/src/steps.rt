@@ -37,21 +37,21 @@ pub(crate) fn begin(pcp: &Pcp, at: &mut Elem, generator: u16) -> Frame
         ≡ with_state at.old (plain_push (rowed_presentation pcp.now) at.old.state (generator - 1)) }
 {
     let commuting = pcp.commuting_from(generator);
-    let later = at.exponents_between(generator, commuting);
-    at.clear_between(generator, commuting);
-    let place = raise(pcp, at, generator);
-    Frame {
+    let mut frame = Frame {
         generator,
         letter: generator,
         copies: 0,
         relation: Relation::Power(generator),
-        place,
+        place: 0,
         syllables: pcp.word(Relation::Power(generator)).len(),
         next: generator,
         times: 0,
-        later,
+        later: at.exponents_between(generator, commuting),
         end: commuting - 1,
-    }
+    };
+    at.clear_between(generator, commuting);
+    frame.place = raise(pcp, at, generator);
+    frame
 }
 
 /// Raises the exponent of a generator by 1, and gives the number of the syllable from which on the word of its power is to be
@@ -101,8 +101,7 @@ fn step(pcp: &Pcp, at: &mut Elem, frame: &mut Frame) -> Progress
     if frame.copies > 0 {
         push_letter(pcp, at, frame)
     } else if frame.place < frame.syllables {
-        frame.take_syllable(pcp);
-        push_letter(pcp, at, frame)
+        push_syllables(pcp, at, frame)
     } else if frame.times > 0 {
         pass_letter(pcp, at, frame)
     } else if frame.next < frame.end {
@@ -115,6 +114,31 @@ fn step(pcp: &Pcp, at: &mut Elem, frame: &mut Frame) -> Progress
     } else {
         Progress::Done
     }
+}
+
+/// Adds the letters of the rest of the word at once, up to the first of which some copies are left: one of them is to be pushed.
+fn push_syllables(pcp: &Pcp, at: &mut Elem, frame: &mut Frame) -> Progress
+    requires element { IsElement pcp.now at.old }
+    requires frame { IsFrame pcp.now frame.old }
+    requires none_before { frame.old.copies ≡ 0 }
+    requires more { frame.old.place < length (side_word pcp.now frame.old.relation) }
+    ensures { IsStep pcp.now frame.old at.old result frame.new at.new }
+{
+    let word = pcp.word(frame.relation);
+    let mut place = frame.place;
+    while place < word.len() {
+        let syllable = word[place];
+        place += 1;
+        let left = add_copies(pcp, at, syllable.generator, syllable.exponent);
+        if left > 0 {
+            frame.letter = syllable.generator;
+            frame.copies = left - 1;
+            frame.place = place;
+            return Progress::Push(syllable.generator);
+        }
+    }
+    frame.place = place;
+    Progress::Within
 }
 
 /// Passes copies of the next letter: adds their tails, and pushes what can be pushed of them at once.
@@ -150,7 +174,8 @@ fn push_letter(pcp: &Pcp, at: &mut Elem, frame: &mut Frame) -> Progress
 /// Adds copies of a generator, counted from 1, to its exponent, and gives how many are left: all where it doesn't commute with
 /// each later letter that the element has, and else those that take the exponent past the prime, unless the right side of the
 /// power is empty.
-fn add_copies(pcp: &Pcp, at: &mut Elem, generator: u16, copies: u8) -> u8
+#[inline(always)]
+pub(crate) fn add_copies(pcp: &Pcp, at: &mut Elem, generator: u16, copies: u8) -> u8
     requires element { IsElement pcp.now at.old }
     requires from_one { 1 ≤ generator }
     requires in_range { generator ≤ pcp.now.presentation.rank }

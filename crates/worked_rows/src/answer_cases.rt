@@ -4,7 +4,7 @@
 
 use answer_text::{AnswerFault, read_answer};
 use anyhow::{Result, bail};
-use case_lists::text::{Text, unescaped};
+use case_lists::text::{Text, replaced};
 use case_lists::{Cases, show_answer};
 use pc_presentation::Answer;
 use std::alloc::Global;
@@ -34,30 +34,6 @@ impl Cases for AnswerCases {
         };
         show_read(self.alloc, &text, out)
     }
-}
-
-/// A text in which the first part that stands before `=>` is replaced by what stands behind it.
-fn replaced(alloc: Global, text: &[u8], rest: &str) -> Result<Vec<u8>> {
-    let Some((old, new)) = rest.split_once(" =>") else {
-        bail!("without =>");
-    };
-    let old = unescaped(alloc, old)?;
-    let new = unescaped(alloc, new.strip_prefix(' ').unwrap_or(new))?;
-    let Some(place) = place_of(text, &old) else {
-        bail!("no such part");
-    };
-    let (before, behind) = text.split_at(place.min(text.len()));
-    let mut changed = Vec::from_slice(alloc, before)?;
-    changed.extend_from_slice(&new)?;
-    if let Some(rest) = behind.strip_prefix(old.as_slice()) {
-        changed.extend_from_slice(rest)?;
-    }
-    Ok(changed)
-}
-
-/// Where a part of a text begins first.
-fn place_of(text: &[u8], part: &[u8]) -> Option<usize> {
-    (0..text.len()).find(|place| text[*place..].starts_with(part))
 }
 
 fn show_read(alloc: Global, bytes: &[u8], out: &mut String) -> Result<()> {

@@ -107,7 +107,6 @@ fn show_statuses(out: &mut String) -> Result<()> {
         Status::NoMemory,
         Status::CertRefused,
         Status::InputTooLong,
-        Status::NotBuilt,
     ] {
         let number = status.number();
         writeln!(out, "    {number} {status:?}")?;

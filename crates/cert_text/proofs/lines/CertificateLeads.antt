@@ -16,9 +16,10 @@ use Rattle.derivation_log.specs.declared.source.Run.TheVariants.{Iterated, Whole
 use Rattle.derivation_log.specs.Certificates.{StepLines, Certificate, has_two_runs}
 use Rattle.cert_text.specs.CertificateText.{IsWritable, version_line, run_line, steps_lines, iterated_lines, runs_lines, certificate_lines, certificate_text}
 use Rattle.cert_text.specs.LineByLine.{Leads, IsWhole}
-use Rattle.cert_text.specs.CertificatePlaces.{Place, HasForm, IsEnd, Head, head_of, IsHead}
+use Rattle.cert_text.specs.CertificatePlaces.{Place, HasForm, IsEnd, Head, head_of}
 use Rattle.cert_text.specs.CertificatePlaces.Place.{for_version, for_generators, in_presentation, for_class, for_run, in_run, in_answer}
 use Rattle.cert_text.specs.CertificatePlaces.HasForm.{version, prime, class, first_of_two_runs, only_run, second_run, answer, of_answer}
+use Rattle.cert_text.specs.ReadSoFar.{IsFront, lines_in_front}
 use Rattle.cert_text.proofs.lines.LineByLine.{Leads-append, IsWhole-Leads}
 use Rattle.cert_text.proofs.lines.FormLaws.{tells_places}
 use Rattle.cert_text.proofs.lines.PresentationLeads.{presentation-leads}
@@ -41,57 +42,75 @@ unfolding certificate_text answer_text
 certificate_text-parts c =
     ap (λ (ls : List (List ℕ)). text_of_lines ls) (front_lines-answer c) ∙ text_of_lines-append (front_lines c) (codes "answer" ∷ answer_lines c.answer)
 
-module _ (c : Certificate) (w : IsWritable c) where
-  offered : IsOffered c.prime
-  offered = subst IsOffered w.certificate.prime w.answer.prime
-
-  is_head : IsHead (head c)
-  is_head = record { presentation = w.presentation; offered = offered }
-
+-- the lines in front of an answer, whatever the answer is
+module _ (H : Head) (iterated whole : List StepLines) (front : IsFront H iterated whole) where
   -- the runs
-  whole-leads : (earlier : List StepLines) → Leads Place HasForm (in_run (head c) Whole earlier []) (steps_lines 0 c.whole) (in_run (head c) Whole earlier (reverse c.whole))
+  whole-leads : (earlier : List StepLines) → Leads Place HasForm (in_run H Whole earlier []) (steps_lines 0 whole) (in_run H Whole earlier (reverse whole))
   whole-leads earlier =
-      subst (λ (ss : List StepLines). Leads Place HasForm (in_run (head c) Whole earlier []) (steps_lines 0 c.whole) (in_run (head c) Whole earlier ss)) (append-nil (reverse c.whole))
-      (steps-lead (head c) is_head Whole earlier [] c.whole w.certificate.whole_steps)
+      subst (λ (ss : List StepLines). Leads Place HasForm (in_run H Whole earlier []) (steps_lines 0 whole) (in_run H Whole earlier ss)) (append-nil (reverse whole))
+      (steps-lead H front.head Whole earlier [] whole front.whole_steps)
 
   -- the steps of the run over the iterated part, read back in order
-  in_order : reverse (reverse c.iterated ++ []) ≡ c.iterated
-  in_order = ap (λ (ss : List StepLines). reverse ss) (append-nil (reverse c.iterated)) ∙ reverse-reverse c.iterated
+  in_order : reverse (reverse iterated ++ []) ≡ iterated
+  in_order = ap (λ (ss : List StepLines). reverse ss) (append-nil (reverse iterated)) ∙ reverse-reverse iterated
 
-  second-leads : Leads Place HasForm (in_run (head c) Iterated [] (reverse c.iterated ++ [])) (run_line Whole ∷ steps_lines 0 c.whole) (in_run (head c) Whole c.iterated (reverse c.whole))
+  second-leads : Leads Place HasForm (in_run H Iterated [] (reverse iterated ++ [])) (run_line Whole ∷ steps_lines 0 whole) (in_run H Whole iterated (reverse whole))
   second-leads = (
-    in_run (head c) Whole (reverse (reverse c.iterated ++ [])) [],
-    second_run (head c) (reverse c.iterated ++ []),
-    subst (λ (ss : List StepLines). Leads Place HasForm (in_run (head c) Whole ss []) (steps_lines 0 c.whole) (in_run (head c) Whole c.iterated (reverse c.whole))) (sym in_order) (whole-leads c.iterated),
+    in_run H Whole (reverse (reverse iterated ++ [])) [],
+    second_run H (reverse iterated ++ []),
+    subst (λ (ss : List StepLines). Leads Place HasForm (in_run H Whole ss []) (steps_lines 0 whole) (in_run H Whole iterated (reverse whole))) (sym in_order) (whole-leads iterated),
   )
 
-  runs-lead : (two : Bool) → has_two_runs c.presentation ≡ two
-      → Leads Place HasForm (for_run (head c)) (iterated_lines two c.iterated ++ (run_line Whole ∷ steps_lines 0 c.whole)) (in_run (head c) Whole c.iterated (reverse c.whole))
+  runs-lead : (two : Bool) → has_two_runs H.presentation ≡ two
+      → Leads Place HasForm (for_run H) (iterated_lines two iterated ++ (run_line Whole ∷ steps_lines 0 whole)) (in_run H Whole iterated (reverse whole))
   runs-lead true e = (
-    in_run (head c) Iterated [] [],
-    first_of_two_runs (head c) e,
-    Leads-append Place HasForm IsEnd tells_places (in_run (head c) Iterated [] []) (in_run (head c) Iterated [] (reverse c.iterated ++ [])) (in_run (head c) Whole c.iterated (reverse c.whole))
-        (steps_lines 0 c.iterated) (run_line Whole ∷ steps_lines 0 c.whole) (steps-lead (head c) is_head Iterated [] [] c.iterated w.certificate.iterated_steps) second-leads,
+    in_run H Iterated [] [],
+    first_of_two_runs H e,
+    Leads-append Place HasForm IsEnd tells_places (in_run H Iterated [] []) (in_run H Iterated [] (reverse iterated ++ [])) (in_run H Whole iterated (reverse whole))
+        (steps_lines 0 iterated) (run_line Whole ∷ steps_lines 0 whole) (steps-lead H front.head Iterated [] [] iterated front.iterated_steps) second-leads,
   )
   runs-lead false e =
-      let none : c.iterated ≡ [] = w.certificate.one_run e in (
-        in_run (head c) Whole [] [],
-        only_run (head c) e,
-        subst (λ (ss : List StepLines). Leads Place HasForm (in_run (head c) Whole [] []) (steps_lines 0 c.whole) (in_run (head c) Whole ss (reverse c.whole))) (sym none) (whole-leads []),
+      let none : iterated ≡ [] = front.one_run e in (
+        in_run H Whole [] [],
+        only_run H e,
+        subst (λ (ss : List StepLines). Leads Place HasForm (in_run H Whole [] []) (steps_lines 0 whole) (in_run H Whole ss (reverse whole))) (sym none) (whole-leads []),
       )
 
-  pub front-leads : Leads Place HasForm for_version (front_lines c) (in_run (head c) Whole c.iterated (reverse c.whole))
-  front-leads = (
+  pub in_front-leads : Leads Place HasForm for_version (lines_in_front H iterated whole) (in_run H Whole iterated (reverse whole))
+  in_front-leads = (
     for_generators,
-    subst (λ (v : ℕ). HasForm for_version (version_line v) for_generators) (sym w.version) version,
-    Leads-append Place HasForm IsEnd tells_places for_generators (in_presentation c.presentation) (in_run (head c) Whole c.iterated (reverse c.whole))
-        (canonical_lines c.presentation) (prime_line c.prime ∷ class_line c.class ∷ runs_lines c) (presentation-leads c.presentation w.presentation)
-        (for_class c.presentation c.prime, prime c.presentation c.prime offered, (for_run (head c), class c.presentation c.prime c.class w.certificate.class_from_one w.certificate.class_limit, runs-lead (has_two_runs c.presentation) refl)),
+    version,
+    Leads-append Place HasForm IsEnd tells_places for_generators (in_presentation H.presentation) (in_run H Whole iterated (reverse whole))
+        (canonical_lines H.presentation) (prime_line H.prime ∷ class_line H.class ∷ (iterated_lines (has_two_runs H.presentation) iterated ++ (run_line Whole ∷ steps_lines 0 whole)))
+        (presentation-leads H.presentation front.head.presentation) (
+          for_class H.presentation H.prime,
+          prime H.presentation H.prime front.head.offered,
+          (for_run H, class H.presentation H.prime H.class front.from_one front.limit, runs-lead (has_two_runs H.presentation) refl),
+        ),
   )
 
+  pub in_front-answer : HasForm (in_run H Whole iterated (reverse whole)) (codes "answer") (in_answer H iterated whole for_prime)
+  in_front-answer = subst (λ (ss : List StepLines). HasForm (in_run H Whole iterated (reverse whole)) (codes "answer") (in_answer H iterated ss for_prime)) (reverse-reverse whole)
+      (answer H iterated (reverse whole))
+
+module _ (c : Certificate) (w : IsWritable c) where
+  is_front : IsFront (head c) c.iterated c.whole
+  is_front = record {
+    head = record { presentation = w.presentation; offered = subst IsOffered w.certificate.prime w.answer.prime };
+    from_one = w.certificate.class_from_one;
+    limit = w.certificate.class_limit;
+    one_run = w.certificate.one_run;
+    iterated_steps = w.certificate.iterated_steps;
+    whole_steps = w.certificate.whole_steps;
+  }
+
+  pub front-leads : Leads Place HasForm for_version (front_lines c) (in_run (head c) Whole c.iterated (reverse c.whole))
+  front-leads =
+      subst (λ (v : ℕ). Leads Place HasForm for_version (version_line v ∷ (canonical_lines c.presentation ++ (prime_line c.prime ∷ class_line c.class ∷ runs_lines c))) (in_run (head c) Whole c.iterated (reverse c.whole)))
+      (sym w.version) (in_front-leads (head c) c.iterated c.whole is_front)
+
   pub answer-form : HasForm (in_run (head c) Whole c.iterated (reverse c.whole)) (codes "answer") (in_answer (head c) c.iterated c.whole for_prime)
-  answer-form = subst (λ (ss : List StepLines). HasForm (in_run (head c) Whole c.iterated (reverse c.whole)) (codes "answer") (in_answer (head c) c.iterated ss for_prime)) (reverse-reverse c.whole)
-      (answer (head c) c.iterated (reverse c.whole))
+  answer-form = in_front-answer (head c) c.iterated c.whole is_front
 
 -- what is whole in an answer's text is so behind the runs
 pub IsWhole-in_answer : (H : Head) (earlier steps : List StepLines) (P : answers.Place) (bytes : List ℕ) (m : ℕ) → answer_faults.IsWhole P bytes m

@@ -22,7 +22,7 @@ module _ (Place : Type 0) (HasForm : Place → List ℕ → Place → Type 0) (I
   Leads = line_by_line.Leads Place HasForm
 
   -- no line of the bytes has the form of a line in this place
-  abbrev IsStuck : Place → List ℕ → Type 0
+  abbrev pub IsStuck : Place → List ℕ → Type 0
   IsStuck P bytes = (l rest : List ℕ) (Q : Place) → HasForm P l Q → bytes ≡ l ++ 10 ∷ rest → ⊥
 
   -- no line, and this is no end

@@ -39,7 +39,7 @@ avoids-form (answer H earlier ss) = refl
 avoids-form (of_answer H earlier steps P line Q f) = answer_forms.avoids-form f
 
 -- the last of some tail lines is one
-last-line : (p n least : ℕ) (lines before : List TailLine) (l : TailLine) → are_tail_lines p n lines least (before ++ l ∷ []) ≡ true
+pub last-line : (p n least : ℕ) (lines before : List TailLine) (l : TailLine) → are_tail_lines p n lines least (before ++ l ∷ []) ≡ true
     → (m : ℕ) × (is_number_from m l.tail ≡ true) × (is_tail_line p n lines l ≡ true)
 last-line p n least lines [] l h =
     let parts = and_parts (is_number_from least l.tail) (is_tail_line p n lines l && true) h in
@@ -64,7 +64,7 @@ prime_line-same p q a b e =
     let low : q < 8 = offered-small q b in
     (decimal-told p q [] [] (omega arith) (omega arith) tt tt (ap (λ (t : List ℕ). drop 6 t ++ []) e)).0
 
-class_line-same : (c d : ℕ) → c ≤ max_class → d ≤ max_class → class_line c ≡ class_line d → c ≡ d
+pub class_line-same : (c d : ℕ) → c ≤ max_class → d ≤ max_class → class_line c ≡ class_line d → c ≡ d
 class_line-same c d a b e = (decimal-told c d [] [] (omega arith) (omega arith) tt tt (ap (λ (t : List ℕ). drop 6 t ++ []) e)).0
 
 pub form-same : {P Q R : Place} {l k : List ℕ} → HasForm P l Q → HasForm P k R → l ≡ k → Q ≡ R

@@ -1,6 +1,6 @@
 -- The lines of a presentation's canonical text: each is one line, begins with no `p`, and makes a presentation of those before it; and
 -- all of them tell the presentation.
-use Rattle.std.proofs.Common.{◌≡◌, ◌≤◌, ℕ, Bool, true, false, List, [], ◌∷◌, ◌++◌, All, get_or, length, codes, refl, sym, ap, subst}
+use Rattle.std.proofs.Common.{◌≡◌, ◌≤◌, ℕ, true, false, List, [], ◌∷◌, ◌++◌, All, length, codes, refl, sym, ap, subst}
 use Rattle.std.specs.Prelude.{ℤ, eqb, ◌==◌}
 use Rattle.std.specs.List.{AllByRecursion}
 use Rattle.std.proofs.lemmas.List.Elements.{All-head, All-tail}
@@ -16,6 +16,7 @@ use Rattle.lpres_reader.proofs.faults.ReaderLaws.{each_text_reads_or_fails}
 use Rattle.lpres_reader.proofs.texts.LineBytes.{line_is_plain, plain_is_one_line}
 use Rattle.answer_text.proofs.Splits.{avoids}
 use Rattle.cert_text.specs.CertificateText.{HasText}
+pub use Rattle.cert_text.specs.ReadSoFar.{begins_with_p}
 
 -- a presentation is told by the lines of its canonical text
 pub canonical_lines-same : (L M : LPresentation) → HasText L → HasText M → canonical_lines L ≡ canonical_lines M → L ≡ M
@@ -63,7 +64,7 @@ endos-one_line names are some (f ∷ fs) h short = (
   endos-one_line names are some fs h.2 (All-tail AreShort f fs short),
 )
 
-lines-one_line : (L : LPresentation) → HasText L → AllByRecursion IsOneLine (canonical_lines L)
+pub lines-one_line : (L : LPresentation) → HasText L → AllByRecursion IsOneLine (canonical_lines L)
 lines-one_line L a = (
   written-avoids _ (generators_line L.names) (generators-written L.names a.names a.limits.some_generator),
   each-append IsOneLine (relator_lines (codes "fixed ") L.names L.fixed) (relator_lines (codes "iterated ") L.names L.iterated ++ endo_lines L.names L.endos)
@@ -76,10 +77,6 @@ lines-one_line L a = (
 -- the last line of a presentation
 pub avoids-item : (L : LPresentation) (before : List (List ℕ)) (line : List ℕ) → HasText L → canonical_lines L ≡ before ++ line ∷ [] → avoids 10 line ≡ true
 avoids-item L before line a e = each-last IsOneLine before line (subst (AllByRecursion IsOneLine) e (lines-one_line L a))
-
--- the line begins with `p`
-abbrev pub begins_with_p : List ℕ → Bool
-begins_with_p line = eqb (get_or line 0 0) 112
 
 abbrev NoPrime : List ℕ → Type 0
 NoPrime line = begins_with_p line ≡ false

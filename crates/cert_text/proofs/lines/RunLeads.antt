@@ -1,12 +1,13 @@
 -- The lines of the steps of a run have their form in their places.
-use Rattle.std.proofs.Common.{◌≡◌, ℕ, suc, Bool, true, false, ◌&&◌, ◌||◌, List, [], ◌∷◌, ◌++◌, length, map, refl, ap, sym, subst, ◌∙◌, append_assoc, append-nil}
-use Rattle.std.specs.Prelude.{ltb, eqb, not, reverse}
-use Rattle.std.proofs.lemmas.Bool.{and_parts, and_from}
+use Rattle.std.proofs.Common.{◌≡◌, ℕ, suc, true, ◌&&◌, List, [], ◌∷◌, ◌++◌, length, map, refl, ap, sym, subst, ◌∙◌, append_assoc, append-nil}
+use Rattle.std.specs.Prelude.{reverse}
+use Rattle.std.proofs.lemmas.Bool.{and_parts}
 use Rattle.std.proofs.lemmas.List.{reverse-append}
 use Rattle.derivation_log.specs.declared.source.Run.{Run}
 use Rattle.derivation_log.specs.declared.source.RowSource.{RowSource}
 use Rattle.derivation_log.specs.Certificates.{TailLine, StepLines}
-use Rattle.derivation_log.specs.CertificateForms.{is_number_from, are_pairs, are_at_most, has_line, are_kept_below, is_tail_line, are_tail_lines, is_source_in, are_sources_in, are_steps_in}
+use Rattle.derivation_log.specs.CertificateForms.{are_tail_lines, is_source_in, are_sources_in, are_steps_in}
+use Rattle.derivation_log.proofs.NextTailLines.{tail_lines-front}
 use Rattle.cert_text.specs.CertificateText.{source_line, tail_line, steps_lines}
 use Rattle.cert_text.specs.LineByLine.{Leads}
 use Rattle.cert_text.specs.CertificatePlaces.{Place, HasForm, IsEnd, Head, IsHead, no_lines}
@@ -17,37 +18,6 @@ use Rattle.cert_text.proofs.lines.FormLaws.{tells_places}
 
 abbrev step_of : List RowSource → List TailLine → StepLines
 step_of sources tails = record { sources = sources; tails = tails }
-
--- a tail that has no line among some has none among fewer
-no_line-front : (t : ℕ) (ls ks : List TailLine) → not (has_line (ls ++ ks) t) ≡ true → not (has_line ls t) ≡ true
-no_line-front t [] ks = λ h. refl
-no_line-front t (l ∷ ls) ks = elim (eqb t l.tail) as (λ (b : Bool). not (b || has_line (ls ++ ks) t) ≡ true → not (b || has_line ls t) ≡ true) [
-  | true ↦ λ h. h
-  | false ↦ no_line-front t ls ks
-]
-
-kept_below-front : (t : ℕ) (ls ks : List TailLine) (pairs : List (ℕ × ℕ)) → are_kept_below (ls ++ ks) t pairs ≡ true → are_kept_below ls t pairs ≡ true
-kept_below-front t ls ks [] h = refl
-kept_below-front t ls ks (a ∷ pairs) h =
-    let first = and_parts (ltb a.0 t) (not (has_line (ls ++ ks) a.0) && are_kept_below (ls ++ ks) t pairs) h in
-    let second = and_parts (not (has_line (ls ++ ks) a.0)) (are_kept_below (ls ++ ks) t pairs) first.1 in
-    and_from (ltb a.0 t) _ first.0 (and_from (not (has_line ls a.0)) _ (no_line-front a.0 ls ks second.0) (kept_below-front t ls ks pairs second.1))
-
-tail_line-front : (p n : ℕ) (ls ks : List TailLine) (l : TailLine) → is_tail_line p n (ls ++ ks) l ≡ true → is_tail_line p n ls l ≡ true
-tail_line-front p n ls ks l h =
-    let rest : Bool = ltb 0 (length l.sums) && (are_pairs p 1 l.sums && are_at_most n l.sums) in
-    let first = and_parts (are_pairs p 1 l.kept) (are_kept_below (ls ++ ks) l.tail l.kept && rest) h in
-    let second = and_parts (are_kept_below (ls ++ ks) l.tail l.kept) rest first.1 in
-    and_from (are_pairs p 1 l.kept) _ first.0 (and_from (are_kept_below ls l.tail l.kept) _ (kept_below-front l.tail ls ks l.kept second.0) second.1)
-
--- the front of some tail lines are tail lines
-tail_lines-front : (p n least : ℕ) (lines more ls ks : List TailLine) → are_tail_lines p n (lines ++ more) least (ls ++ ks) ≡ true → are_tail_lines p n lines least ls ≡ true
-tail_lines-front p n least lines more [] ks h = refl
-tail_lines-front p n least lines more (l ∷ ls) ks h =
-    let first = and_parts (is_number_from least l.tail) (is_tail_line p n (lines ++ more) l && are_tail_lines p n (lines ++ more) (suc l.tail) (ls ++ ks)) h in
-    let second = and_parts (is_tail_line p n (lines ++ more) l) (are_tail_lines p n (lines ++ more) (suc l.tail) (ls ++ ks)) first.1 in
-    and_from (is_number_from least l.tail) _ first.0
-    (and_from (is_tail_line p n lines l) _ (tail_line-front p n lines more l second.0) (tail_lines-front p n (suc l.tail) lines more ls ks second.1))
 
 module _ (H : Head) (head : IsHead H) (run : Run) (earlier : List StepLines) where
   sources-lead : (ss : List StepLines) (done left : List RowSource) → are_sources_in H.presentation run left ≡ true

@@ -1,6 +1,5 @@
 -- Lines that haven't the form of a line in their place, place by place, and faults inside the answer.
 use Rattle.std.proofs.Common.{◌≡◌, ◌≤◌, ℕ, zero, suc, Bool, true, false, List, [], ◌∷◌, ◌++◌, length, refl, ap, sym, subst, ◌∙◌, append_assoc, append-nil}
-use Rattle.std.specs.Prelude.{codes}
 use Rattle.std.specs.List.{AllByRecursion}
 use Rattle.pq_base.specs.LPresentation.{LPresentation}
 use Rattle.pq_base.specs.Limits.{max_class}
@@ -16,6 +15,7 @@ use Rattle.derivation_log.specs.declared.source.RowSource.{RowSource}
 use Rattle.derivation_log.specs.Certificates.{TailLine, StepLines, has_two_runs}
 use Rattle.derivation_log.specs.CertificateForms.{is_source_in, are_tail_lines}
 use Rattle.cert_text.specs.CertificateText.{HasText, version_line, run_line, step_line, source_line, tail_line}
+pub use Rattle.cert_text.specs.ReadSoFar.{end_line}
 use Rattle.cert_text.specs.LineByLine.{Leads, Begins, IsWhole, IsFirstBad}
 use Rattle.cert_text.specs.CertificatePlaces.{Place, HasForm, IsEnd, Head}
 use Rattle.cert_text.specs.CertificatePlaces.Place.{for_version, for_generators, in_presentation, for_class, for_run, in_run, in_answer}
@@ -42,11 +42,6 @@ first_run false = Whole
 pub no-run : (H : Head) (line : List ℕ) → (line ≡ run_line (first_run (has_two_runs H.presentation)) → ⊥) → (Q : Place) → HasForm (for_run H) line Q → ⊥
 no-run H line other Q (first_of_two_runs H2 two) = other (ap (λ (b : Bool). run_line (first_run b)) (sym two))
 no-run H line other Q (only_run H2 one) = other (ap (λ (b : Bool). run_line (first_run b)) (sym one))
-
--- the line behind the steps of a run
-abbrev pub end_line : Run → List ℕ
-end_line Iterated = run_line Whole
-end_line Whole = codes "answer"
 
 -- no line of the step that is read follows
 abbrev pub HasNoFurther : Head → Run → List StepLines → List ℕ → Type 0

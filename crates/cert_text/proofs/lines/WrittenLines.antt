@@ -47,7 +47,7 @@ text_of_lines-presentation : (ls : List (List ℕ)) → text_of_presentation_lin
 text_of_lines-presentation [] = refl
 text_of_lines-presentation (l ∷ ls) = ap (λ (t : List ℕ). l ++ 10 ∷ t) (text_of_lines-presentation ls)
 
-canonical_text-lines : (L : LPresentation) → canonical_text L ≡ text_of_lines (canonical_lines L)
+pub canonical_text-lines : (L : LPresentation) → canonical_text L ≡ text_of_lines (canonical_lines L)
 unfolding canonical_text
 canonical_text-lines L = text_of_lines-presentation (canonical_lines L)
 

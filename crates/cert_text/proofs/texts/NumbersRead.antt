@@ -124,9 +124,9 @@ numbers_text-next all rest more ns ms n pushed e so_far =
     ∙ ap (λ (t : List ℕ). numbers_text ns ++ 32 ∷ (t ++ more)) (append-nil (decimal n))
     ∙ ap (λ (t : List ℕ). numbers_text ns ++ t) (sym e) ∙ so_far
 
-pub AllBelow-next : (ns : List ℕ) (n : ℕ) → AllBelow 65536 ns → n < 65536 → AllBelow 65536 (ns ++ n ∷ [])
-AllBelow-next [] n h small = (small, tt)
-AllBelow-next (m ∷ ns) n h small = (h.0, AllBelow-next ns n h.1 small)
+pub AllBelow-next : (p : ℕ) (ns : List ℕ) (n : ℕ) → AllBelow p ns → n < p → AllBelow p (ns ++ n ∷ [])
+AllBelow-next p [] n h small = (small, tt)
+AllBelow-next p (m ∷ ns) n h small = (h.0, AllBelow-next p ns n h.1 small)
 
 pub AllBelow-at : (p : ℕ) (ns : List ℕ) (i : ℕ) → AllBelow p ns → i < length ns → get_or ns i 0 < p
 AllBelow-at p [] i h inside = absurd (omega arith)

@@ -14,6 +14,8 @@ use Rattle.derivation_log.specs.declared.source.RowSource.TheVariants.{Test, Fix
 use Rattle.derivation_log.specs.CertificateForms.{max_number, is_number_from, is_written_overlap, is_one_of, are_each_one_of, is_source_in}
 use Rattle.answer_text.proofs.Splits.{first-same, first-apart, avoids, avoids-append}
 use Rattle.cert_text.specs.CertificateText.{numbers_text, overlap_text, along_text, source_text, source_line}
+pub use Rattle.cert_text.specs.WrittenNumbers.{overlap_numbers, IsWrittenSource}
+use Rattle.cert_text.proofs.texts.NumbersRead.{AllBelow-wider}
 use Rattle.cert_text.proofs.texts.NumberTexts.{greatest, StartsWell, is_no_digit, decimal-told, numbers_text-same, avoids-numbers}
 
 pub number-below : (least n : ℕ) → is_number_from least n ≡ true → n < greatest
@@ -22,18 +24,14 @@ number-below least n h = let most : n ≤ max_number = leb-true n max_number (an
 one_of-below : (m n : ℕ) → m ≤ 4096 → is_one_of m n ≡ true → n < greatest
 one_of-below m n few h = let most : n ≤ m = leb-true n m (and_parts (leb 1 n) (leb n m) h).1 in omega arith
 
-each-below : (m : ℕ) (s : List ℕ) → m ≤ 4096 → are_each_one_of m s ≡ true → AllBelow greatest s
+one_of-small : (m n : ℕ) → m ≤ 16 → is_one_of m n ≡ true → n < 256
+one_of-small m n few h = let most : n ≤ m = leb-true n m (and_parts (leb 1 n) (leb n m) h).1 in omega arith
+
+each-below : (m : ℕ) (s : List ℕ) → m ≤ 16 → are_each_one_of m s ≡ true → AllBelow 256 s
 each-below m [] few h = tt
 each-below m (e ∷ s) few h =
     let parts = and_parts (is_one_of m e) (are_each_one_of m s) h in
-    (one_of-below m e few parts.0, each-below m s few parts.1)
-
--- the numbers of an overlap
-abbrev pub overlap_numbers : Overlap → List ℕ
-overlap_numbers (Triple k j i) = k ∷ j ∷ i ∷ []
-overlap_numbers (Left j i) = j ∷ i ∷ []
-overlap_numbers (Right j i) = j ∷ i ∷ []
-overlap_numbers (Own i) = i ∷ []
+    (one_of-small m e few parts.0, each-below m s few parts.1)
 
 two-below : (j i : ℕ) → (is_number_from 1 j && is_number_from 1 i) ≡ true → AllBelow greatest (j ∷ i ∷ [])
 two-below j i h =
@@ -85,27 +83,21 @@ is_overlap_byte b = eqb b 116 || (eqb b 108 || (eqb b 114 || eqb b 111))
 other_byte : (a c : ℕ) (us vs : List ℕ) → is_overlap_byte a ≡ true → is_overlap_byte c ≡ false → a ∷ us ≡ c ∷ vs → ⊥
 other_byte a c us vs h g e = let bad : true ≡ false = sym h ∙ ap is_overlap_byte (first-same a c us vs e) ∙ g in cc
 
-overlap-apart : (o : Overlap) (c : ℕ) (us : List ℕ) → is_overlap_byte c ≡ false → overlap_text o ≡ c ∷ us → ⊥
+pub overlap-apart : (o : Overlap) (c : ℕ) (us : List ℕ) → is_overlap_byte c ≡ false → overlap_text o ≡ c ∷ us → ⊥
 overlap-apart (Triple k j i) c us h e = other_byte 116 c _ us refl h e
 overlap-apart (Left j i) c us h e = other_byte 108 c _ us refl h e
 overlap-apart (Right j i) c us h e = other_byte 114 c _ us refl h e
 overlap-apart (Own i) c us h e = other_byte 111 c _ us refl h e
 
-along-start : (s : List ℕ) → StartsWell is_no_digit (along_text s)
+pub along-start : (s : List ℕ) → StartsWell is_no_digit (along_text s)
 along-start [] = tt
 along-start (e ∷ s) = refl
 
-along_text-same : (s t : List ℕ) → AllBelow greatest s → AllBelow greatest t → along_text s ≡ along_text t → s ≡ t
+pub along_text-same : (s t : List ℕ) → AllBelow greatest s → AllBelow greatest t → along_text s ≡ along_text t → s ≡ t
 along_text-same [] [] a b e = refl
 along_text-same [] (n ∷ t) a b e = cc
 along_text-same (m ∷ s) [] a b e = cc
 along_text-same (m ∷ s) (n ∷ t) a b e = numbers_text-same (m ∷ s) (n ∷ t) a b (ap (λ (x : List ℕ). drop 6 x) e)
-
--- the numbers of a source that a text can hold
-abbrev pub IsWrittenSource : RowSource → Type 0
-IsWrittenSource (Test o) = AllBelow greatest (overlap_numbers o)
-IsWrittenSource (Fixed i) = i < greatest
-IsWrittenSource (Iterated i s) = (i < greatest) × AllBelow greatest s
 
 pub IsWrittenSource-in : (L : LPresentation) (r : Run) (a : RowSource) → IsWithinLimits L → is_source_in L r a ≡ true → IsWrittenSource a
 IsWrittenSource-in L r (Test o) limits h = overlap-below o h
@@ -113,8 +105,7 @@ IsWrittenSource-in L run.Iterated (Fixed i) limits h = cc
 IsWrittenSource-in L run.Whole (Fixed i) limits h = one_of-below (length L.fixed) i limits.fixed h
 IsWrittenSource-in L r (Iterated i s) limits h =
     let parts = and_parts (is_one_of (length L.iterated) i) (are_each_one_of (length L.endos) s) h in
-    let few : length L.endos ≤ 16 = limits.endos in
-    (one_of-below (length L.iterated) i limits.iterated parts.0, each-below (length L.endos) s (omega arith) parts.1)
+    (one_of-below (length L.iterated) i limits.iterated parts.0, each-below (length L.endos) s limits.endos parts.1)
 
 pub source_text-same : (a b : RowSource) → IsWrittenSource a → IsWrittenSource b → source_text a ≡ source_text b → a ≡ b
 source_text-same (Test o) (Test q) h g e = ap (λ (x : Overlap). Test x) (overlap_text-same o q h g e)
@@ -123,7 +114,7 @@ source_text-same (Iterated i s) (Iterated j t) h g e =
     let shifted : decimal i ++ along_text s ≡ decimal j ++ along_text t =
     ap (λ (x : List ℕ). x ++ along_text s) (sym (append-nil (decimal i))) ∙ ap (λ (x : List ℕ). drop 9 x) e ∙ ap (λ (x : List ℕ). x ++ along_text t) (append-nil (decimal j)) in
     let parts = decimal-told i j (along_text s) (along_text t) h.0 g.0 (along-start s) (along-start t) shifted in
-    ap₂ (λ (n : ℕ) (p : List ℕ). Iterated n p) parts.0 (along_text-same s t h.1 g.1 parts.1)
+    ap₂ (λ (n : ℕ) (p : List ℕ). Iterated n p) parts.0 (along_text-same s t (AllBelow-wider s h.1) (AllBelow-wider t g.1) parts.1)
 source_text-same (Test o) (Fixed j) h g e = absurd (overlap-apart o 102 _ refl e)
 source_text-same (Test o) (Iterated j t) h g e = absurd (overlap-apart o 105 _ refl e)
 source_text-same (Fixed i) (Test q) h g e = absurd (overlap-apart q 102 _ refl (sym e))

@@ -27,7 +27,7 @@ AreWrittenPairs-are_pairs p least (a ∷ pairs) small h =
     ((number-below least a.0 first.0, omega arith), AreWrittenPairs-are_pairs p (suc a.0) pairs small third.1)
 
 -- a pair in front of what no digit begins
-pair-told : (a b : ℕ × ℕ) (us vs : List ℕ) → IsWrittenPair a → IsWrittenPair b → StartsWell is_no_digit us → StartsWell is_no_digit vs
+pub pair-told : (a b : ℕ × ℕ) (us vs : List ℕ) → IsWrittenPair a → IsWrittenPair b → StartsWell is_no_digit us → StartsWell is_no_digit vs
     → pair_text a ++ us ≡ pair_text b ++ vs → (a ≡ b) × (us ≡ vs)
 pair-told a b us vs h g s t e =
     let whole : decimal a.0 ++ (58 ∷ (decimal a.1 ++ us)) ≡ decimal b.0 ++ (58 ∷ (decimal b.1 ++ vs)) =
@@ -37,14 +37,14 @@ pair-told a b us vs h g s t e =
     (ap₂ (λ (x y : ℕ). (x, y)) number.0 coefficient.0, coefficient.1)
 
 -- where one text has a pair in front and the other has none, the other has a colon in front
-no-pair : (a : ℕ × ℕ) (us vs : List ℕ) → StartsWell is_no_digit us → us ≡ pair_text a ++ vs → us ≡ 58 ∷ (decimal a.1 ++ vs)
+pub no-pair : (a : ℕ × ℕ) (us vs : List ℕ) → StartsWell is_no_digit us → us ≡ pair_text a ++ vs → us ≡ 58 ∷ (decimal a.1 ++ vs)
 no-pair a us vs s e = no-number a.0 us (58 ∷ (decimal a.1 ++ vs)) s refl (e ∙ append_assoc (decimal a.0) (58 ∷ decimal a.1) vs)
 
 -- what stands behind the tails
 abbrev by_sums : List ℕ → List ℕ
 by_sums x = codes " by " ++ x
 
-further-start : (pairs : List (ℕ × ℕ)) (x : List ℕ) → StartsWell is_no_digit (further_pairs_text pairs ++ by_sums x)
+pub further-start : (pairs : List (ℕ × ℕ)) (x : List ℕ) → StartsWell is_no_digit (further_pairs_text pairs ++ by_sums x)
 further-start [] x = refl
 further-start (a ∷ pairs) x = refl
 
@@ -77,12 +77,12 @@ pairs-same a b xs ys x y h g e =
     (ap₂ (λ (c : ℕ × ℕ) (cs : List (ℕ × ℕ)). c ∷ cs) first.0 more.0, more.1)
 
 -- a pair doesn't begin as 0 and a blank do
-no-zero : (a : ℕ × ℕ) (us vs : List ℕ) → codes "0 " ++ us ≡ pair_text a ++ vs → ⊥
+pub no-zero : (a : ℕ × ℕ) (us vs : List ℕ) → codes "0 " ++ us ≡ pair_text a ++ vs → ⊥
 no-zero a us vs e =
     let whole : codes "0 " ++ us ≡ decimal a.0 ++ (58 ∷ (decimal a.1 ++ vs)) = e ∙ append_assoc (decimal a.0) (58 ∷ decimal a.1) vs in
     first-apart 32 58 _ _ refl (cut-same is_no_digit (48 ∷ []) (decimal a.0) (32 ∷ us) (58 ∷ (decimal a.1 ++ vs)) (refl, tt) (AllFail-decimal a.0) refl refl whole).1
 
-kept-same : (xs ys : List (ℕ × ℕ)) (x y : List ℕ) → AreWrittenPairs xs → AreWrittenPairs ys
+pub kept-same : (xs ys : List (ℕ × ℕ)) (x y : List ℕ) → AreWrittenPairs xs → AreWrittenPairs ys
     → kept_text xs ++ by_sums x ≡ kept_text ys ++ by_sums y → (xs ≡ ys) × (x ≡ y)
 kept-same [] [] x y h g e = (refl, ap (λ (t : List ℕ). drop 5 t) e)
 kept-same [] (b ∷ ys) x y h g e =

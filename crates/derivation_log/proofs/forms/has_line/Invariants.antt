@@ -1,7 +1,14 @@
-use Rattle.std.proofs.Common.{◌≡◌, drop}
-use Rattle.derivation_log.specs.CertificateForms.{has_line}
+use Rattle.std.proofs.Common.{◌<◌, ◌≤◌, ◌-◌, ℕ, length}
+use Rattle.derivation_log.proofs.NextTailLines.{tail_at}
 use Rattle.derivation_log.proofs.forms.has_line.Given as goal
 
--- what is left decides
-abbrev pub invariant-loop-line : goal.invariant-loop-line
-invariant-loop-line l = has_line l.lines l.t ≡ has_line (drop l.line-index l.lines) l.t
+-- the tails before the first bound are below t, and those from the second on are above it
+abbrev pub invariant-loop-low : goal.invariant-loop-low
+invariant-loop-low l = record {
+  bounds : l.high ≤ length l.lines;
+  below : (i : ℕ) → i < l.low → tail_at l.lines i < l.t;
+  above : (i : ℕ) → l.high ≤ i → i < length l.lines → l.t < tail_at l.lines i;
+}
+
+abbrev pub decreases-loop-low : goal.decreases-loop-low
+decreases-loop-low l = l.high - l.low

@@ -1,14 +1,11 @@
 -- Each refusal is told by its own line and status.
 use Rattle.std.proofs.Common.{refl}
-use Rattle.pq_run.specs.declared.refusal.Refusal.TheVariants.{InputTooLong, Text, TooLarge}
+use Rattle.pq_run.specs.declared.refusal.Refusal.TheVariants.{InputTooLong, Text, TooLarge, CertificateLine, CertificatePart}
 use Rattle.pq_run.proofs.RefusalEnds.{ends_as, ends_by, ends_told, ends_in_memory}
 use Rattle.pq_run.proofs.refusal.refuse.Goals as goal
 
 pub returns-in-Words-clause-ends : goal.returns-in-Words-clause-ends
 returns-in-Words-clause-ends g c = ends_as _ _ _ _ c.in-Words.is c.refuse_by.ensures.status c.refuse_by.ensures.line
-
-pub returns-in-UnbuiltCommand-clause-ends : goal.returns-in-UnbuiltCommand-clause-ends
-returns-in-UnbuiltCommand-clause-ends g c = ends_as _ _ _ _ c.in-UnbuiltCommand.is c.refuse_by-in-UnbuiltCommand.ensures.status c.refuse_by-in-UnbuiltCommand.ensures.line
 
 pub returns-in-ReadFault-clause-ends : goal.returns-in-ReadFault-clause-ends
 returns-in-ReadFault-clause-ends g c = ends_as _ _ _ _ c.in-ReadFault.is c.refuse_by-in-ReadFault.ensures.status c.refuse_by-in-ReadFault.ensures.line
@@ -28,3 +25,13 @@ pub returns-in-TooLarge-clause-ends : goal.returns-in-TooLarge-clause-ends
 returns-in-TooLarge-clause-ends g c =
     ends_in_memory _ (TooLarge c.in-TooLarge.part c.in-TooLarge.class c.in-TooLarge.rank) _ _ _ c.in-TooLarge.is tt c.too_large_line-line.ensures
     c.refuse_in_memory-in-TooLarge.ensures.told c.refuse_in_memory-in-TooLarge.ensures.wanting
+
+pub returns-in-CertificateLine-clause-ends : goal.returns-in-CertificateLine-clause-ends
+returns-in-CertificateLine-clause-ends g c =
+    ends_in_memory _ (CertificateLine c.in-CertificateLine.number) _ _ _ c.in-CertificateLine.is tt c.certificate_line.ensures
+    c.refuse_in_memory-in-CertificateLine.ensures.told c.refuse_in_memory-in-CertificateLine.ensures.wanting
+
+pub returns-in-CertificatePart-clause-ends : goal.returns-in-CertificatePart-clause-ends
+returns-in-CertificatePart-clause-ends g c =
+    ends_in_memory _ (CertificatePart c.in-CertificatePart.run' c.in-CertificatePart.class c.in-CertificatePart.part) _ _ _ c.in-CertificatePart.is tt
+    c.failing_part_line-line.ensures c.refuse_in_memory-in-CertificatePart.ensures.told c.refuse_in_memory-in-CertificatePart.ensures.wanting

@@ -1,6 +1,6 @@
 -- Each clause follows from how the command ends.
-use Rattle.pq_run.proofs.WordsEnds.{bad_words-ends, command-ends}
-use Rattle.pq_run.proofs.InputEnds.{too_long-ends, bad_text-ends, too_large-ends, complete-ends}
+use Rattle.pq_run.proofs.WordsEnds.{bad_words-ends}
+use Rattle.pq_run.proofs.InputEnds.{too_long-ends, bad_text-ends, too_large-ends, cert_refused-ends, complete-ends}
 use Rattle.pq_run.proofs.RefusalEnds.{done-ends, write_fault-ends, refused-ends}
 use Rattle.pq_run.proofs.Headlines.{headline}
 use Rattle.pq_run.proofs.OneOutputs.{only_output}
@@ -25,9 +25,6 @@ returns-clause-refused g c = refused-ends _ _ _ _ c.carry_out.ensures.ends
 pub returns-clause-bad_words : goal.returns-clause-bad_words
 returns-clause-bad_words g c = bad_words-ends _ _ _ _ c.carry_out.ensures.ends
 
-pub returns-clause-command : goal.returns-clause-command
-returns-clause-command g c = command-ends _ _ _ _ c.carry_out.ensures.ends
-
 pub returns-clause-too_long : goal.returns-clause-too_long
 returns-clause-too_long g c = too_long-ends _ _ _ _ c.carry_out.ensures.ends
 
@@ -36,6 +33,9 @@ returns-clause-bad_text g c = bad_text-ends _ _ _ _ c.carry_out.ensures.ends
 
 pub returns-clause-too_large : goal.returns-clause-too_large
 returns-clause-too_large g c = too_large-ends _ _ _ _ c.carry_out.ensures.ends
+
+pub returns-clause-cert_refused : goal.returns-clause-cert_refused
+returns-clause-cert_refused g c = cert_refused-ends _ _ _ _ c.carry_out.ensures.ends
 
 pub returns-clause-complete : goal.returns-clause-complete
 returns-clause-complete g c = complete-ends _ _ _ _ c.carry_out.ensures.ends

@@ -2,11 +2,6 @@ use Rattle.stack_collector.proofs.FrameLaws.{within-alone}
 use Rattle.stack_collector.proofs.StepsInTurn.{going-step}
 use Rattle.stack_collector.proofs.steps.step.Goals as goal
 
-pub returns-then-frame : goal.returns-then-frame
-returns-then-frame c =
-    going-step c.args.pcp.now c.args.frame.now c.take_syllable.new.self c.push_letter-then-frame.new.frame c.args.at.now c.push_letter-then-frame.new.at
-    c.push_letter-then-frame.result c.requires.element c.take_syllable.ensures.on c.push_letter-then-frame.ensures
-
 pub returns-then-frame-gt0-3 : goal.returns-then-frame-gt0-3
 returns-then-frame-gt0-3 c =
     going-step c.args.pcp.now c.args.frame.now c.take_exponent.new.self c.pass_letter-then-frame-gt0-3.new.frame c.args.at.now

@@ -1,4 +1,4 @@
-use Rattle.std.proofs.Common.{◌≡◌, ◌-◌, ◌<◌, ℕ, List, length, ap, ap₂, ◌∙◌, arith}
+use Rattle.std.proofs.Common.{◌-◌, ◌<◌, ℕ, List, length, ap, ap₂, ◌∙◌, arith}
 use Rattle.pq_base.specs.Prime.{prime_value}
 use Rattle.fp_echelon.specs.Slots.{Slot}
 use Rattle.fp_echelon.proofs.BasisReading.{added_read, prime_read}
@@ -11,7 +11,7 @@ returns c =
     ∙ ap₂ (λ (p : ℕ) (l : List ℕ). record { prime = p; entries = l })
     (ap (λ (s : Slot). s.prime) c.index.ensures
     ∙ prime_read (prime_value c.self.inside.prime) c.self.inside.width c.self.inside.rank c.self.inside.spare c.self.inside.entries.items
-    c.args.self.now c.self.view_is c.self.invariant (c.args.number - 1) c.index.result.now low)
+    c.args.self.now c.self.view_is c.self.invariant.0 (c.args.number - 1) c.index.result.now low)
     (ap (λ (s : Slot). s.added) c.index.ensures
     ∙ added_read (prime_value c.self.inside.prime) c.self.inside.width c.self.inside.rank c.self.inside.spare c.self.inside.entries.items
-    c.args.self.now c.self.view_is c.self.invariant (c.args.number - 1) c.index.result.now low)
+    c.args.self.now c.self.view_is c.self.invariant.0 (c.args.number - 1) c.index.result.now low)

@@ -1,143 +1,20 @@
-use Rattle.std.proofs.Common.{◌≡◌, ◌<◌, ◌≤◌, ◌+◌, ◌-◌, ◌++◌, ℕ, List, length, take, drop, get_or, ap, sym, ◌∙◌, subst, refl, arith}
-use Rattle.std.proofs.lemmas.List.{take_at}
-use Rattle.pq_base.specs.Prime.{prime_value}
+use Rattle.std.proofs.Common.{◌≡◌, List, ℕ, ap, sym, ◌∙◌, subst, arith}
 use Rattle.pq_base.specs.Elementary.{zeros}
 use Rattle.fp_rows.proofs.EntryLaws.{IsZeroRow-is_zeros}
 use Rattle.fp_echelon.specs.Span.{InSpan}
-use Rattle.fp_echelon.specs.Slots.{Slot}
 use Rattle.fp_echelon.proofs.SpanLaws.{InSpan-zeros}
-use Rattle.fp_echelon.proofs.BasisInsertion.{given_slots, given_pivots, after_left, same_after_left, basis_after_left, in_span_where_left, after_joined, basis_after_joined, independent_where_joined, added_after_joined, pivots_after_joined, rank_after_joined}
 use Rattle.fp_echelon.proofs.basis.Basis.insert.Goals as goal
+use Rattle.fp_echelon.proofs.basis.Basis.insert.Goals.{then-is_zero-via-then-is_zero, then-is_zero-via-else-is_zero+then-reduces_to_zero}
 
 pub returns-then-is_zero-clause-dependent : goal.returns-then-is_zero-clause-dependent
 returns-then-is_zero-clause-dependent c =
     let B = c.args.self.now in
     let basis = c.rank-basis.ensures.basis in
     let two = basis.prime in
-    let zero_row : c.args.row.now.entries ≡ zeros B.width =
-    IsZeroRow-is_zeros c.args.row.now.entries (c.is_zero.ensures.0 c.if-is_zero.true) ∙ ap zeros c.requires.width in
-    subst (λ (x : List ℕ). InSpan B.prime B.width B.added x) (sym zero_row) (InSpan-zeros B.prime B.width B.added (omega arith) basis.added)
-
-pub insert-requires-clause-slots : goal.insert-requires-clause-slots
-insert-requires-clause-slots c =
-    given_slots (prime_value c.self.inside.prime) c.self.inside.width c.self.inside.rank c.self.inside.spare c.self.inside.entries.items
-    c.deref_mut.result.now c.self.inside.entries.items c.self.inside.entries.items c.args.self.now c.args.row.now c.self.view_is c.self.invariant
-    c.deref_mut.ensures.value refl c.requires.prime c.requires.width c.requires.spare
-
-pub insert-requires-clause-pivots : goal.insert-requires-clause-pivots
-insert-requires-clause-pivots c =
-    given_pivots (prime_value c.self.inside.prime) c.self.inside.width c.self.inside.rank c.self.inside.spare c.self.inside.entries.items
-    c.deref_mut.result.now c.self.inside.entries.items c.self.inside.entries.items c.args.self.now c.args.row.now c.self.view_is c.self.invariant
-    c.deref_mut.ensures.value refl c.requires.prime c.requires.width c.requires.spare
-
-pub invariant_of-self : goal.invariant_of-self
-invariant_of-self c =
-    let stored : List Slot =
-    take c.self.inside.entries.len (c.insert.new.entries ++ drop (length c.insert.new.entries) c.self.inside.entries.items) in
-    let kept : stored ≡ c.insert.new.entries =
-    take_at c.insert.new.entries (drop (length c.insert.new.entries) c.self.inside.entries.items) c.self.inside.entries.len (omega arith) in
-    after_left (prime_value c.self.inside.prime) c.self.inside.width c.self.inside.rank c.self.inside.spare c.self.inside.entries.items
-    c.deref_mut.result.now c.insert.new.entries stored c.args.self.now c.args.row.now c.self.view_is c.self.invariant
-    c.deref_mut.ensures.value kept c.requires.prime c.requires.width c.requires.spare c.insert.ensures.row
-    c.in-None.ensures.none
-
-pub invariant_of-self-in-Some : goal.invariant_of-self-in-Some
-invariant_of-self-in-Some c =
-    let stored : List Slot =
-    take c.self.inside.entries.len (c.insert.new.entries ++ drop (length c.insert.new.entries) c.self.inside.entries.items) in
-    let kept : stored ≡ c.insert.new.entries =
-    take_at c.insert.new.entries (drop (length c.insert.new.entries) c.self.inside.entries.items) c.self.inside.entries.len (omega arith) in
-    after_joined (prime_value c.self.inside.prime) c.self.inside.width c.self.inside.rank c.self.inside.spare c.self.inside.entries.items
-    c.deref_mut.result.now c.insert.new.entries stored c.args.self.now c.args.row.now c.self.view_is c.self.invariant
-    c.deref_mut.ensures.value kept c.requires.prime c.requires.width c.requires.spare c.insert.ensures.row
-    c.in-Some.column c.in-Some.ensures.some
-
-pub returns-in-None-clause-basis : goal.returns-in-None-clause-basis
-returns-in-None-clause-basis c =
-    let stored : List Slot =
-    take c.self.inside.entries.len (c.insert.new.entries ++ drop (length c.insert.new.entries) c.self.inside.entries.items) in
-    let kept : stored ≡ c.insert.new.entries =
-    take_at c.insert.new.entries (drop (length c.insert.new.entries) c.self.inside.entries.items) c.self.inside.entries.len (omega arith) in
-    basis_after_left (prime_value c.self.inside.prime) c.self.inside.width c.self.inside.rank c.self.inside.spare c.self.inside.entries.items
-    c.deref_mut.result.now c.insert.new.entries stored c.args.self.now c.args.row.now c.self.view_is c.self.invariant
-    c.deref_mut.ensures.value kept c.requires.prime c.requires.width c.requires.spare c.insert.ensures.row
-    c.in-None.ensures.none
-
-pub returns-in-None-clause-dependent : goal.returns-in-None-clause-dependent
-returns-in-None-clause-dependent c =
-    let stored : List Slot =
-    take c.self.inside.entries.len (c.insert.new.entries ++ drop (length c.insert.new.entries) c.self.inside.entries.items) in
-    let kept : stored ≡ c.insert.new.entries =
-    take_at c.insert.new.entries (drop (length c.insert.new.entries) c.self.inside.entries.items) c.self.inside.entries.len (omega arith) in
-    in_span_where_left (prime_value c.self.inside.prime) c.self.inside.width c.self.inside.rank c.self.inside.spare c.self.inside.entries.items
-    c.deref_mut.result.now c.insert.new.entries stored c.args.self.now c.args.row.now c.self.view_is c.self.invariant
-    c.deref_mut.ensures.value kept c.requires.prime c.requires.width c.requires.spare c.insert.ensures.row
-    c.in-None.ensures.none
-
-pub returns-in-None-clause-unchanged : goal.returns-in-None-clause-unchanged
-returns-in-None-clause-unchanged c =
-    let stored : List Slot =
-    take c.self.inside.entries.len (c.insert.new.entries ++ drop (length c.insert.new.entries) c.self.inside.entries.items) in
-    let kept : stored ≡ c.insert.new.entries =
-    take_at c.insert.new.entries (drop (length c.insert.new.entries) c.self.inside.entries.items) c.self.inside.entries.len (omega arith) in
-    same_after_left (prime_value c.self.inside.prime) c.self.inside.width c.self.inside.rank c.self.inside.spare c.self.inside.entries.items
-    c.deref_mut.result.now c.insert.new.entries stored c.args.self.now c.args.row.now c.self.view_is c.self.invariant
-    c.deref_mut.ensures.value kept c.requires.prime c.requires.width c.requires.spare c.insert.ensures.row
-    c.in-None.ensures.none
-
-pub returns-in-Some-clause-basis : goal.returns-in-Some-clause-basis
-returns-in-Some-clause-basis c =
-    let stored : List Slot =
-    take c.self.inside.entries.len (c.insert.new.entries ++ drop (length c.insert.new.entries) c.self.inside.entries.items) in
-    let kept : stored ≡ c.insert.new.entries =
-    take_at c.insert.new.entries (drop (length c.insert.new.entries) c.self.inside.entries.items) c.self.inside.entries.len (omega arith) in
-    basis_after_joined (prime_value c.self.inside.prime) c.self.inside.width c.self.inside.rank c.self.inside.spare c.self.inside.entries.items
-    c.deref_mut.result.now c.insert.new.entries stored c.args.self.now c.args.row.now c.self.view_is c.self.invariant
-    c.deref_mut.ensures.value kept c.requires.prime c.requires.width c.requires.spare c.insert.ensures.row
-    c.in-Some.column c.in-Some.ensures.some
-
-pub returns-in-Some-clause-independent : goal.returns-in-Some-clause-independent
-returns-in-Some-clause-independent c =
-    let stored : List Slot =
-    take c.self.inside.entries.len (c.insert.new.entries ++ drop (length c.insert.new.entries) c.self.inside.entries.items) in
-    let kept : stored ≡ c.insert.new.entries =
-    take_at c.insert.new.entries (drop (length c.insert.new.entries) c.self.inside.entries.items) c.self.inside.entries.len (omega arith) in
-    independent_where_joined (prime_value c.self.inside.prime) c.self.inside.width c.self.inside.rank c.self.inside.spare c.self.inside.entries.items
-    c.deref_mut.result.now c.insert.new.entries stored c.args.self.now c.args.row.now c.self.view_is c.self.invariant
-    c.deref_mut.ensures.value kept c.requires.prime c.requires.width c.requires.spare c.insert.ensures.row
-    c.in-Some.column c.in-Some.ensures.some
-
-pub returns-in-Some-clause-added : goal.returns-in-Some-clause-added
-returns-in-Some-clause-added c =
-    let stored : List Slot =
-    take c.self.inside.entries.len (c.insert.new.entries ++ drop (length c.insert.new.entries) c.self.inside.entries.items) in
-    let kept : stored ≡ c.insert.new.entries =
-    take_at c.insert.new.entries (drop (length c.insert.new.entries) c.self.inside.entries.items) c.self.inside.entries.len (omega arith) in
-    added_after_joined (prime_value c.self.inside.prime) c.self.inside.width c.self.inside.rank c.self.inside.spare c.self.inside.entries.items
-    c.deref_mut.result.now c.insert.new.entries stored c.args.self.now c.args.row.now c.self.view_is c.self.invariant
-    c.deref_mut.ensures.value kept c.requires.prime c.requires.width c.requires.spare c.insert.ensures.row
-    c.in-Some.column c.in-Some.ensures.some
-
-pub returns-in-Some-clause-pivot : goal.returns-in-Some-clause-pivot
-returns-in-Some-clause-pivot c =
-    let stored : List Slot =
-    take c.self.inside.entries.len (c.insert.new.entries ++ drop (length c.insert.new.entries) c.self.inside.entries.items) in
-    let kept : stored ≡ c.insert.new.entries =
-    take_at c.insert.new.entries (drop (length c.insert.new.entries) c.self.inside.entries.items) c.self.inside.entries.len (omega arith) in
-    pivots_after_joined (prime_value c.self.inside.prime) c.self.inside.width c.self.inside.rank c.self.inside.spare c.self.inside.entries.items
-    c.deref_mut.result.now c.insert.new.entries stored c.args.self.now c.args.row.now c.self.view_is c.self.invariant
-    c.deref_mut.ensures.value kept c.requires.prime c.requires.width c.requires.spare c.insert.ensures.row
-    c.in-Some.column c.in-Some.ensures.some
-
-pub overflow_add-self : goal.overflow_add-self
-overflow_add-self c =
-    let stored : List Slot =
-    take c.self.inside.entries.len (c.insert.new.entries ++ drop (length c.insert.new.entries) c.self.inside.entries.items) in
-    let kept : stored ≡ c.insert.new.entries =
-    take_at c.insert.new.entries (drop (length c.insert.new.entries) c.self.inside.entries.items) c.self.inside.entries.len (omega arith) in
-    let low : c.self.inside.rank + 1 ≤ c.self.inside.width =
-    rank_after_joined (prime_value c.self.inside.prime) c.self.inside.width c.self.inside.rank c.self.inside.spare c.self.inside.entries.items
-    c.deref_mut.result.now c.insert.new.entries stored c.args.self.now c.args.row.now c.self.view_is c.self.invariant
-    c.deref_mut.ensures.value kept c.requires.prime c.requires.width c.requires.spare c.insert.ensures.row
-    c.in-Some.column c.in-Some.ensures.some in
-    omega arith
+    elim c.then-is_zero.branch [
+      | then-is_zero-via-then-is_zero w ↦
+          let zero_row : c.args.row.now.entries ≡ zeros B.width =
+          IsZeroRow-is_zeros c.args.row.now.entries (c.is_zero.ensures.0 w.if-is_zero.true) ∙ ap zeros c.requires.width in
+          subst (λ (x : List ℕ). InSpan B.prime B.width B.added x) (sym zero_row) (InSpan-zeros B.prime B.width B.added (omega arith) basis.added)
+      | then-is_zero-via-else-is_zero+then-reduces_to_zero w ↦ w.reduces_to_zero.ensures.span w.if-reduces_to_zero.true
+    ]

@@ -1,0 +1,6 @@
+pub mod StepRows
+pub mod SumLines
+pub mod KeptTails
+pub mod Judging
+pub mod AgreedOverlaps
+pub mod MapWords

@@ -1,0 +1,6 @@
+-- The law is the lemma of the same name.
+use Rattle.valid_certificates.proofs.ValidCertificates.{valid_certificates_are_canonical}
+use Rattle.valid_certificates.proofs.laws.valid_certificates_are_canonical.Goals as goal
+
+pub returns : goal.returns
+returns c = valid_certificates_are_canonical

@@ -1,0 +1,4 @@
+pub mod LineBases
+pub mod ReachedAnswers
+pub mod ValidRuns
+pub mod ValidityLaws

@@ -1,5 +1,4 @@
 -- What a source and a sink tell of a command.
--- From: this project's own commands.
 use Rattle.std.specs.Prelude.{ℕ, List, Option}
 
 -- what is left in a source before and after, where it tells that, and its counts of faults

@@ -1,4 +1,5 @@
 -- The commands that ask for the answer of a presentation, each in its form.
+-- From: this project's own commands.
 use Rattle.std.specs.Prelude.{ℕ}
 use Rattle.pq_base.specs.declared.prime.Prime.{Prime}
 use Rattle.pq_run.specs.declared.command.Command.{Command}

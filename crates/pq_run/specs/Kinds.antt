@@ -36,8 +36,8 @@ IsBadText bytes command = IsGiven Presentation bytes command × ¬ IsReadable by
 abbrev pub IsCertRefused : List ℕ → Command → Type 0
 IsCertRefused bytes command = IsGiven Certificate bytes command × ¬ IsValidText bytes
 
--- a command is given the bytes for a presentation, and they are one in this part of which class k is the first whose largest quotient has a rank above the limit:
--- the rank is r
+-- a command is given the bytes for a presentation, and they are one in this part of which class k is the first whose largest quotient
+-- has a rank above the limit: the rank is r
 abbrev pub IsTooLargeFor : Run → ℕ → ℕ → List ℕ → Command → Type 0
 IsTooLargeFor part k r bytes command = IsGiven Presentation bytes command × AtPrimeAndClass (λ p c. HasLargeRank p c part k r bytes) command
 

@@ -112,8 +112,8 @@ OneOutputOneCertificate = (p c : ℕ) (bytes written : List ℕ) (x y : WritesCe
 
 -- the bytes, the prime and the class determine the answer of what is written as a certificate, whatever sources it names
 abbrev pub OneCertifiedAnswer : Type 0
-OneCertifiedAnswer = (p c : ℕ) (bytes written other : List ℕ) (x : WritesCertificate p c bytes written) (y : WritesCertificate p c bytes other)
-    → x.certificate.answer ≡ y.certificate.answer
+OneCertifiedAnswer = (p c : ℕ) (bytes written other : List ℕ) (x : WritesCertificate p c bytes written)
+    (y : WritesCertificate p c bytes other) → x.certificate.answer ≡ y.certificate.answer
 
 -- it is the answer that is written by itself
 abbrev pub CertifiesWhatIsWritten : Type 0

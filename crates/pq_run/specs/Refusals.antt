@@ -23,7 +23,8 @@ use Rattle.tower.specs.declared.refusal.TowerRefusal.{TowerRefusal}
 use Rattle.tower.specs.declared.refusal.TowerRefusal.TheVariants as tower
 use Rattle.pq_run.specs.declared.input.Input.{Input}
 use Rattle.pq_run.specs.declared.refusal.Refusal.{Refusal}
-use Rattle.pq_run.specs.declared.refusal.Refusal.TheVariants.{Words, ReadFault, InputTooLong, Text, TooLarge, CertificateLine, CertificatePart, NoMemory}
+use Rattle.pq_run.specs.declared.refusal.Refusal.TheVariants.{Words, ReadFault, InputTooLong, Text, TooLarge}
+use Rattle.pq_run.specs.declared.refusal.Refusal.TheVariants.{CertificateLine, CertificatePart, NoMemory}
 use Rattle.pq_run.specs.Input.{byte_limit}
 
 -- what is limited

@@ -1,5 +1,6 @@
 -- What the bytes of a presentation's input may be: no presentation, or one some of whose largest quotients up to a class have a rank
 -- above the limit, or one with none such. The largest quotients of the iterated part count where it is computed first.
+-- From: this project's own commands.
 use Rattle.std.specs.Prelude.{◌<◌, ◌≤◌, ℕ, List}
 use Rattle.pq_base.specs.Limits.{max_rank}
 use Rattle.pq_base.specs.LPresentation.{LPresentation}

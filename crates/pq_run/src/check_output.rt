@@ -1,4 +1,5 @@
-// The output of `check`: from the bytes of a source to the text of the answer of a valid certificate.
+//! The output of `check`: from the bytes of a source to the text of the answer of a valid certificate.
+
 ghost use Rattle.std.specs.Prelude.{◌≡◌, ◌≤◌, ◌+◌, [], Some, IfOk, IfErr, IfSome};
 ghost use Rattle.derivation_log.specs.CertificateParts.{full_kind};
 ghost use Rattle.derivation_log.specs.Validity.{IsValid};

@@ -1,4 +1,5 @@
-// The commands, and the words that spell them.
+//! The commands, and the words that spell them.
+
 ghost use Rattle.std.specs.Prelude.{◌≡◌, ◌∷◌, [], ℕ, IfSome, IfNone, decimal};
 ghost use Rattle.pq_base.specs.Prime.{prime_value};
 ghost use Rattle.pq_run.specs.Command.{IsClass, CommandWords, AreCommandWords};
@@ -57,6 +58,7 @@ pub fn parse_words(words: &Words) -> Option<Command>
     }
 }
 
+/// The command that is this one word, if it is one.
 fn of_one(verb: &str) -> Option<Command>
     ensures some { IfSome result (λ c. CommandWords (verb.now ∷ []) c) }
     ensures none { IfNone result (¬ AreCommandWords (verb.now ∷ [])) }
@@ -68,6 +70,7 @@ fn of_one(verb: &str) -> Option<Command>
     }
 }
 
+/// The command that these two words spell, if they spell one.
 fn of_two(verb: &str, number: &str) -> Option<Command>
     ensures some { IfSome result (λ c. CommandWords (verb.now ∷ number.now ∷ []) c) }
     ensures none { IfNone result (¬ AreCommandWords (verb.now ∷ number.now ∷ [])) }
@@ -81,6 +84,7 @@ fn of_two(verb: &str, number: &str) -> Option<Command>
     }
 }
 
+/// The command that these three words spell, if they spell one.
 fn of_three(verb: &str, prime: &str, class: &str) -> Option<Command>
     ensures some { IfSome result (λ c. CommandWords (verb.now ∷ prime.now ∷ class.now ∷ []) c) }
     ensures none { IfNone result (¬ AreCommandWords (verb.now ∷ prime.now ∷ class.now ∷ [])) }
@@ -96,6 +100,7 @@ fn of_three(verb: &str, prime: &str, class: &str) -> Option<Command>
     }
 }
 
+/// The command that these four words spell, if they spell one.
 fn of_four(verb: &str, prime: &str, class: &str, form: &str) -> Option<Command>
     ensures some { IfSome result (λ c. CommandWords (verb.now ∷ prime.now ∷ class.now ∷ form.now ∷ []) c) }
     ensures none { IfNone result (¬ AreCommandWords (verb.now ∷ prime.now ∷ class.now ∷ form.now ∷ [])) }
@@ -109,6 +114,7 @@ fn of_four(verb: &str, prime: &str, class: &str, form: &str) -> Option<Command>
     }
 }
 
+/// The prime, one of those that are offered, whose digits a text is.
 fn prime_of(text: &str) -> Option<Prime>
     ensures some { IfSome result (λ p. text.now ≡ decimal (prime_value p)) }
     ensures none { IfNone result ((p : Prime) → text.now ≡ decimal (prime_value p) → ⊥) }
@@ -119,6 +125,7 @@ fn prime_of(text: &str) -> Option<Prime>
     }
 }
 
+/// The class from 1 to 60 whose digits a text is.
 fn class_of(text: &str) -> Option<u8>
     ensures some { IfSome result (λ c. text.now ≡ decimal c) }
     ensures range { IfSome result (λ c. IsClass c) }

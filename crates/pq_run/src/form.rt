@@ -1,4 +1,4 @@
-// The forms in which an answer is given.
+//! The forms in which an answer is given.
 
 /// A form in which an answer is given.
 #[derive(Clone, Copy, Debug, PartialEq, Eq)]

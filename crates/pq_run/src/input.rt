@@ -1,4 +1,5 @@
-// What a command reads, and how many bytes that may be.
+//! What a command reads, and how many bytes that may be.
+
 ghost use Rattle.std.specs.Prelude.{◌≡◌, ◌+◌, ◌≤◌, ℕ, Some, [], IfOk, IfErr, IfSome};
 ghost use Rattle.lpres_reader.specs.Reads.{Reads};
 ghost use Rattle.pq_run.specs.declared.input.Input.TheVariants.{Presentation, Certificate};
@@ -35,7 +36,7 @@ impl Input {
     }
 }
 
-/// Reads an input to its end.
+/// Reads an input to its end. The refusal is that a read failed, that there are too many bytes, or that memory was wanting.
 pub fn read_input<S: Source>(
     alloc: Global,
     input: Input,
@@ -55,7 +56,7 @@ pub fn read_input<S: Source>(
     }
 }
 
-/// Reads a presentation to its end. Its bytes are let go.
+/// Reads a presentation to its end. Its bytes are dropped. What isn't read as one is refused by its first fault.
 pub fn read_presentation<S: Source>(alloc: Global, source: &mut S) -> Result<LPres, Refusal>
     ensures reads { IfOk result (λ pres. IfSome (S.left source.old) (λ text. Reads text pres)) }
     ensures within { IfOk result (λ pres. IfSome (S.left source.old) (IsWithin Presentation)) }
@@ -69,7 +70,7 @@ pub fn read_presentation<S: Source>(alloc: Global, source: &mut S) -> Result<LPr
     Ok(read(alloc, &text)?)
 }
 
-/// Reads a certificate to its end. Its bytes are let go.
+/// Reads a certificate to its end. Its bytes are dropped. What isn't read as one is refused by the line of its first fault.
 pub fn read_certificate<S: Source>(alloc: Global, source: &mut S) -> Result<Cert, Refusal>
     ensures reads { IfOk result (λ cert. IfSome (S.left source.old) (λ text. text ≡ certificate_text cert)) }
     ensures writable { IfOk result IsWritable }

@@ -1,4 +1,5 @@
-// Numbers in decimal digits, without sign and without a leading zero.
+//! Numbers in decimal digits, without sign and without a leading zero.
+
 ghost use Rattle.std.specs.Prelude.{◌≡◌, ◌^◌, ◌<◌, ◌↔◌, ℕ, IfSome, IfNone, IsTrue, decimal};
 ghost use Rattle.pq_run.specs.Number.{BeginsCanonically};
 
@@ -17,6 +18,7 @@ pub fn canonical_number(text: &str) -> Option<u32>
     }
 }
 
+/// Whether a text begins with no sign, and with 0 only where it is 0 alone.
 fn begins_canonically(text: &[u8]) -> bool
     ensures { IsTrue result ↔ BeginsCanonically text.now }
 {

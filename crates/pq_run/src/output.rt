@@ -1,4 +1,5 @@
-// The outputs of `quotient P C` and `certify P C`: from the bytes of a source to the bytes of the answer in the form that is asked for.
+//! The outputs of `quotient P C` and `certify P C`: from the bytes of a source to the bytes of the answer in the form that is asked for.
+
 ghost use Rattle.std.specs.Prelude.{◌≡◌, ◌≤◌, ◌+◌, [], Some, IfOk, IfErr, IfSome};
 ghost use Rattle.pq_base.specs.Prime.{prime_value};
 ghost use Rattle.answer_text.specs.AnswerText.{answer_text};
@@ -96,7 +97,7 @@ fn output_as_json(alloc: Global, prime: Prime, class: u8, pres: &LPres) -> Resul
     Ok(json(alloc, &answer)?)
 }
 
-/// The answer of a presentation.
+/// The answer of a presentation. That its names and its rank are such as a text has comes from the calls whose results aren't used.
 fn answer_of(alloc: Global, prime: Prime, class: u8, pres: &LPres) -> Result<Answer, Refusal>
     requires { IsClass class }
     ensures quotient { IfOk result (λ answer. IsQuotient pres.now (prime_value prime) class answer) }

@@ -1,4 +1,5 @@
-// Why a command is refused, and the line that says so.
+//! Why a command is refused, and the line that says so.
+
 ghost use Rattle.std.specs.Prelude.{◌≡◌, ◌≤◌, IfOk, OnErr, IsNone, string_bytes};
 ghost use Rattle.lpres_reader.specs.declared.fault.Kind.TheVariants.{Limit as PastLimit};
 ghost use Rattle.pq_run.specs.Refusals.{refusal_of_reading, refusal_of_tower, refusal_of_fault, refusal_of_check, refusal_line};
@@ -39,13 +40,13 @@ pub enum Refusal {
         /// The rank of this quotient.
         rank: u32,
     },
-    /// The input is no certificate: its first fault is at this line.
+    /// The input is no certificate: its first fault is at this line, counted from 1.
     CertificateLine(u32),
     /// The input is a certificate that isn't valid: this is its first part that fails.
     CertificatePart {
         /// The run that is judged.
         run: Run,
-        /// The class that is judged.
+        /// The class that is judged: that of a step, and for what is judged after the steps the one that is asked for.
         class: u8,
         /// The part that fails.
         part: Part,
@@ -188,7 +189,7 @@ fn too_large_line(alloc: Global, part: Run, class: u8, rank: u32) -> Result<Vec<
     Ok(text.into_bytes())
 }
 
-/// What a run computes.
+/// How the line of a rank that is too large names what a run computes.
 fn part_text(part: Run) -> &'static str
     ensures { result.now ≡ part_text part }
 {
@@ -216,7 +217,7 @@ fn failing_part_line(alloc: Global, run: Run, class: u8, part: Part) -> Result<V
     Ok(text.into_bytes())
 }
 
-/// The run of a certificate.
+/// How the line of a failing part names its run.
 fn run_text(run: Run) -> &'static str
     ensures { result.now ≡ run_text run }
 {
@@ -226,7 +227,7 @@ fn run_text(run: Run) -> &'static str
     }
 }
 
-/// The part of a certificate.
+/// How that line names the part.
 fn judged_text(part: Part) -> &'static str
     ensures { result.now ≡ judged_text part }
 {

@@ -1,4 +1,5 @@
-// The output of `sample N`: the summary of the answer of a sample.
+//! The output of `sample N`: the summary of the answer of a sample.
+
 ghost use Rattle.std.specs.Prelude.{◌≤◌, IfOk, IfErr};
 ghost use Rattle.samples.specs.Samples.{max_sample};
 ghost use Rattle.pq_run.specs.SampleRanks.{HasSmallSampleRanks};

@@ -1,4 +1,5 @@
-// The top call: from the words of a command and the bytes of a source to the bytes that a sink takes.
+//! The top call: from the words of a command and the bytes of a source to the bytes that a sink takes.
+
 ghost use Rattle.std.specs.Prelude.{◌≡◌, ◌≢◌, ◌+◌, ◌⊎◌, ◌↔◌, ◌≤◌, ℕ, List, IfSome, IsNone};
 ghost use Rattle.pq_io.specs.Faults.{Rose};
 ghost use Rattle.pq_io.specs.Writing.{Gains, GainsProperPrefix};
@@ -57,8 +58,8 @@ pub fn run<S: Source, K: Sink>(alloc: Global, words: &Words, source: &mut S, sin
     ensures too_long { IfSome (S.left source.old) (λ bytes. Asks (IsTooLong bytes) words.now → IsDecided Status.InputTooLong result) }
     ensures bad_text { IfSome (S.left source.old) (λ bytes. Asks (IsBadText bytes) words.now → IsDecided Status.BadText result) }
     ensures too_large { IfSome (S.left source.old) (λ bytes. Asks (IsTooLarge bytes) words.now → IsDecided Status.TooLarge result) }
-
-    ensures cert_refused { IfSome (S.left source.old) (λ bytes. Asks (IsCertRefused bytes) words.now → IsDecided Status.CertRefused result) }
+    ensures cert_refused { IfSome (S.left source.old)
+        (λ bytes. Asks (IsCertRefused bytes) words.now → IsDecided Status.CertRefused result) }
 
     // Where nothing fails and the input is one that is answered, as each presentation is whose largest quotients have ranks within the
     // limit, those of its iterated part too where that is computed first, and each valid certificate, the command is done, unless memory
@@ -72,6 +73,7 @@ pub fn run<S: Source, K: Sink>(alloc: Global, words: &Words, source: &mut S, sin
     ensures sample_complete { Asks IsSmallSample words.now → ¬ Rose (K.faults sink.old) (K.faults sink.new)
         → (result ≡ Status.Done) ⊎ (result ≡ Status.NoMemory) }
 
+    // Counts of faults never fall, no more is taken than may be, and a sink that has stopped telling never tells again.
     ensures read_count { S.faults source.old ≤ S.faults source.new }
     ensures write_count { K.faults sink.old ≤ K.faults sink.new }
     ensures left { IsTakenBy words.now (S.left source.old) (S.left source.new) }
@@ -80,6 +82,7 @@ pub fn run<S: Source, K: Sink>(alloc: Global, words: &Words, source: &mut S, sin
     carry_out(alloc, words, source, sink)
 }
 
+/// Carries out the command. Its clause `ends` says all that may come of it; those of `run` follow from that.
 fn carry_out<S: Source, K: Sink>(
     alloc: Global,
     words: &Words,

@@ -29,13 +29,13 @@ use Rattle.pq_run.specs.Kinds.{ReadsInput, IsReading, IsAnswered, IsSample}
 use Rattle.pq_run.specs.Output.{WritesCheckedAnswer}
 use Rattle.pq_run.specs.Refusals.{refusal_of_fault, refusal_of_check}
 use Rattle.pq_run.specs.Streams.{Reading, Writing}
-use Rattle.pq_run.specs.Cause.{IsReadCause, IsCheckedTextCause, HasCheckedTextCause, IsCertificateCause, IsCheckCause, IsCause}
+use Rattle.pq_run.specs.Cause.{IsReadCause, IsCertificateTextCause, HasCertificateTextCause, IsCertificateCause, IsCheckCause, IsCause}
 use Rattle.pq_run.specs.Ends.{HasWritten, CameToOutput, Ends}
 use Rattle.pq_run.specs.Ends.Ends.{done, cut}
 use Rattle.pq_run.proofs.Commands.{Asks-apart, reading-not_sample}
 use Rattle.pq_run.proofs.Causes.{told, IfSome-both}
 use Rattle.pq_run.proofs.OutputEnds.{Took}
-use Rattle.pq_run.proofs.CheckedTexts.{checked-largest, checked-canonical}
+use Rattle.pq_run.proofs.CheckedTexts.{checked-largest, checked-canonical, checked-class, checked-exact}
 
 -- what an input is refused for before its text is read
 pub read_cause : (r : Reading) (refusal : Refusal) → IsReadCause Certificate r refusal → IsCheckCause r refusal
@@ -43,7 +43,7 @@ read_cause r Words cause = absurd cause
 read_cause r ReadFault cause = cause
 read_cause r (InputTooLong input) cause = cause
 read_cause r (Text fault) cause = absurd cause
-read_cause r (TooLarge part k rank) cause = absurd cause
+read_cause r (TooLarge run k rank) cause = absurd cause
 read_cause r (CertificateLine n) cause = absurd cause
 read_cause r (CertificatePart run k part) cause = absurd cause
 read_cause r NoMemory cause = tt
@@ -52,8 +52,8 @@ read_cause r NoMemory cause = tt
 pub unread_cause : (text items : List ℕ) (r : Reading) (e : CertFault) → text ≡ items → IsWithin Certificate items
     → IfSome r.left (λ bytes. (items ≡ bytes) × (r.rest ≡ Some [])) → IsFaultOf text e → IsCheckCause r (refusal_of_fault e)
 unread_cause text items r (fault.Line n) same within whole cause =
-    told (λ bytes. IsWithin Certificate bytes × IsCheckedTextCause bytes (CertificateLine n)) items r.left r.rest whole
-    (within, subst (λ (bytes : List ℕ). IsCheckedTextCause bytes (CertificateLine n)) same cause)
+    told (λ bytes. IsWithin Certificate bytes × IsCertificateTextCause bytes (CertificateLine n)) items r.left r.rest whole
+    (within, subst (λ (bytes : List ℕ). IsCertificateTextCause bytes (CertificateLine n)) same cause)
 unread_cause text items r fault.NoMemory same within whole cause = tt
 
 -- what a certificate is refused for by the checker
@@ -69,11 +69,11 @@ module _ (c : certificates.Certificate) (writable : IsWritable c) (r : Reading) 
   certificate_cause ReadFault cause = absurd cause
   certificate_cause (InputTooLong input) cause = absurd cause
   certificate_cause (Text fault) cause = absurd cause
-  certificate_cause (TooLarge part k rank) cause = absurd cause
+  certificate_cause (TooLarge run k rank) cause = absurd cause
   certificate_cause (CertificateLine n) cause = absurd cause
   certificate_cause (CertificatePart run k part) cause =
       IfSome-both (IsWithin Certificate) (λ text. text ≡ certificate_text c)
-      (λ bytes. IsWithin Certificate bytes × IsCheckedTextCause bytes (CertificatePart run k part))
+      (λ bytes. IsWithin Certificate bytes × IsCertificateTextCause bytes (CertificatePart run k part))
       (λ bytes small text. (small, record { certificate = c; writable = writable; text = text; first = cause })) r.left within reads
   certificate_cause NoMemory cause = tt
 
@@ -94,6 +94,8 @@ written_of_certificate c A written writable valid same told = record {
   valid = valid;
   largest = checked-largest c writable valid;
   canonical = checked-canonical c writable valid;
+  class = checked-class c writable valid;
+  exact = checked-exact c writable valid;
   text = told ∙ ap answer_text same;
 }
 
@@ -122,7 +124,7 @@ module _ (words : List (List ℕ)) (spelled : CommandWords words Check) (r : Rea
     subst (λ (x : Input). IfSome r.left (IsAbove x)) (sym cause.0) cause.1,
   )
   input_cause (Text fault) cause = absurd cause
-  input_cause (TooLarge part k rank) cause = absurd cause
+  input_cause (TooLarge run k rank) cause = absurd cause
   input_cause (CertificateLine n) cause = (asks_certificate, cause)
   input_cause (CertificatePart run k part) cause = (asks_certificate, cause)
   input_cause NoMemory cause = (Check, spelled)

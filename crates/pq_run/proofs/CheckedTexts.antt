@@ -1,8 +1,11 @@
 -- A text has a first fault, or it is that of one certificate, a part of which is the first that fails, or which is valid.
-use Rattle.std.proofs.Common.{◌≡◌, ℕ, List, sym, ap, subst, ◌∙◌}
+use Rattle.std.proofs.Common.{◌≡◌, ◌<◌, ℕ, List, sym, ap, subst, ◌∙◌}
+use Rattle.pq_base.specs.Series.{HasClass}
+use Rattle.pq_base.specs.Answer.{class_of}
 use Rattle.pq_base.specs.Canonical.{IsCanonical}
 use Rattle.pq_base.specs.Largest.{IsLargest}
 use Rattle.pq_base.specs.Prime.{IsOffered}
+use Rattle.cover_quotient.proofs.canonical_answers.ExactClasses.{own-class, canonical_answers_have_no_smaller_class}
 use Rattle.derivation_log.specs.declared.source.Run.{Run}
 use Rattle.derivation_log.specs.declared.part.Part.{Part}
 use Rattle.derivation_log.specs.Certificates.{Certificate}
@@ -57,3 +60,16 @@ checked-largest c is valid = valid_certificates_are_largest c (has_form c is) va
 
 pub checked-canonical : (c : Certificate) → IsWritable c → IsValid full_kind c → IsCanonical c.answer
 checked-canonical c is valid = valid_certificates_are_canonical c (has_form c is) valid
+
+-- which has the class that it shows, and no smaller one
+pub checked-class : (c : Certificate) → IsWritable c → IsValid full_kind c → HasClass c.answer.presentation (class_of c.answer)
+checked-class c is valid =
+    let largest = checked-largest c is valid in
+    let canonical = checked-canonical c is valid in
+    own-class c.answer largest.answer canonical.weights
+
+pub checked-exact : (c : Certificate) → IsWritable c → IsValid full_kind c → (k : ℕ) → k < class_of c.answer
+    → ¬ HasClass c.answer.presentation k
+checked-exact c is valid =
+    let largest = checked-largest c is valid in
+    canonical_answers_have_no_smaller_class c.answer largest.answer (checked-canonical c is valid) largest.consistent

@@ -57,7 +57,7 @@ module _ (words : List (List ℕ)) (n : ℕ) (spelled : CommandWords words (Samp
   sample_cause ReadFault cause = absurd cause
   sample_cause (InputTooLong input) cause = absurd cause
   sample_cause (Text fault) cause = absurd cause
-  sample_cause (TooLarge part k rank) cause = inr (Sample n, spelled, cause)
+  sample_cause (TooLarge run k rank) cause = inr (Sample n, spelled, cause)
   sample_cause (CertificateLine m) cause = absurd cause
   sample_cause (CertificatePart run k part) cause = absurd cause
   sample_cause NoMemory cause = (Sample n, spelled)

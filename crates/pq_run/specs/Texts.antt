@@ -18,10 +18,10 @@ IsReadable bytes = (L : LPresentation) × Reads bytes L
 
 -- the bytes read as a presentation, and the first largest quotient up to p-class c that has a rank above the limit is that of class
 -- k: its rank is r. It is one of the iterated part, where a run computes that first, else one of the whole
-pub record HasLargeRank (p c : ℕ) (part : Run) (k r : ℕ) (bytes : List ℕ) : Type 0 where
+pub record HasLargeRank (p c : ℕ) (run : Run) (k r : ℕ) (bytes : List ℕ) : Type 0 where
   pub presentation : LPresentation
   pub reads : Reads bytes presentation
-  pub large : IsTooLargeIn presentation p c part k r
+  pub large : IsTooLargeIn presentation p c run k r
 
 -- the bytes read as a presentation, and each of its largest quotients up to p-class c has a rank within the limit, as has each of its
 -- iterated part, where that is computed first

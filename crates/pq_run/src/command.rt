@@ -11,15 +11,22 @@ use crate::words::Words;
 use pq_base::Prime;
 use pq_base::limits::CLASS;
 
+/// The form in which the answer of a presentation is given.
+#[derive(Clone, Copy, Debug, PartialEq, Eq)]
+pub enum Form {
+    /// Lines of text.
+    Text,
+    /// A JSON value on one line.
+    Json,
+    /// Lines of text, in a certificate that says how it is made.
+    Certificate,
+}
+
 /// What the program is asked for. Classes are from 1 to 60, sample numbers from 0 to 999,999.
 #[derive(Clone, Copy, Debug, PartialEq, Eq)]
 pub enum Command {
-    /// The answer of a presentation, as text.
-    Quotient(Prime, u8),
-    /// The same answer, as JSON.
-    Json(Prime, u8),
-    /// A certificate of that answer.
-    Certify(Prime, u8),
+    /// The answer of a presentation, in a form.
+    Quotient(Prime, u8, Form),
     /// The answer of a valid certificate.
     Check,
     /// The summary of a numbered sample.
@@ -33,8 +40,6 @@ impl Command {
     {
         match self {
             Command::Quotient(..) => Some(Input::Presentation),
-            Command::Json(..) => Some(Input::Presentation),
-            Command::Certify(..) => Some(Input::Presentation),
             Command::Check => Some(Input::Certificate),
             Command::Sample(_) => None,
         }
@@ -92,9 +97,9 @@ fn of_three(verb: &str, prime: &str, class: &str) -> Option<Command>
     let prime = prime_of(prime)?;
     let class = class_of(class)?;
     if verb == "quotient" {
-        Some(Command::Quotient(prime, class))
+        Some(Command::Quotient(prime, class, Form::Text))
     } else if verb == "certify" {
-        Some(Command::Certify(prime, class))
+        Some(Command::Quotient(prime, class, Form::Certificate))
     } else {
         None
     }
@@ -108,7 +113,7 @@ fn of_four(verb: &str, prime: &str, class: &str, form: &str) -> Option<Command>
     let prime = prime_of(prime)?;
     let class = class_of(class)?;
     if verb == "quotient" && form == "json" {
-        Some(Command::Json(prime, class))
+        Some(Command::Quotient(prime, class, Form::Json))
     } else {
         None
     }

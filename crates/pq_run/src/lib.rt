@@ -4,22 +4,22 @@
 //! refused writes the one line that says why. Each status has its cause, but for want of memory.
 #![tactic(auto)]
 
-mod certificate_output;
+mod certify_output;
 mod check_output;
 mod command;
-mod form;
 mod input;
 pub mod laws;
 mod number;
-mod output;
+mod quotient_output;
 mod refusal;
+mod refusal_lines;
+mod refusing;
 mod sample_output;
 mod top;
 mod words;
 
-pub use command::{Command, parse_words};
+pub use command::{Command, Form, parse_words};
 pub use input::Input;
 pub use refusal::Refusal;
-pub use samples::{sample, summary};
 pub use top::run;
 pub use words::Words;

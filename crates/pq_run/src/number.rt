@@ -4,7 +4,7 @@ ghost use Rattle.std.specs.Prelude.{◌≡◌, ◌^◌, ◌<◌, ◌↔◌, ℕ,
 ghost use Rattle.pq_run.specs.Number.{BeginsCanonically};
 
 /// The number that a text spells in its one canonical way, where there is one below 2^32.
-pub fn canonical_number(text: &str) -> Option<u32>
+pub(crate) fn canonical_number(text: &str) -> Option<u32>
     ensures some { IfSome result (λ n. text.now ≡ decimal n) }
     ensures only { IfSome result (λ n. (m : ℕ) → m < 2 ^ 32 → text.now ≡ decimal m → m ≡ n) }
     ensures none { IfNone result ((n : ℕ) → n < 2 ^ 32 → text.now ≡ decimal n → ⊥) }

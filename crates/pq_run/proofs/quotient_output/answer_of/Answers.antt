@@ -1,6 +1,6 @@
 -- The names of the answer are those of the presentation.
 use Rattle.pq_run.proofs.Outputs.{writable}
-use Rattle.pq_run.proofs.output.answer_of.Goals as goal
+use Rattle.pq_run.proofs.quotient_output.answer_of.Goals as goal
 
 pub returns-clause-writable : goal.returns-clause-writable
 returns-clause-writable c =

@@ -2,7 +2,7 @@
 use Rattle.std.proofs.Common.{refl}
 use Rattle.pq_run.specs.declared.refusal.Refusal.TheVariants.{InputTooLong, Text, TooLarge, CertificateLine, CertificatePart}
 use Rattle.pq_run.proofs.RefusalEnds.{ends_as, ends_by, ends_told, ends_in_memory}
-use Rattle.pq_run.proofs.refusal.refuse.Goals as goal
+use Rattle.pq_run.proofs.refusing.refuse.Goals as goal
 
 pub returns-in-Words-clause-ends : goal.returns-in-Words-clause-ends
 returns-in-Words-clause-ends g c = ends_as _ _ _ _ c.in-Words.is c.refuse_by.ensures.status c.refuse_by.ensures.line
@@ -23,7 +23,7 @@ returns-in-Text-clause-ends g c =
 
 pub returns-in-TooLarge-clause-ends : goal.returns-in-TooLarge-clause-ends
 returns-in-TooLarge-clause-ends g c =
-    ends_in_memory _ (TooLarge c.in-TooLarge.part c.in-TooLarge.class c.in-TooLarge.rank) _ _ _ c.in-TooLarge.is tt c.too_large_line-line.ensures
+    ends_in_memory _ (TooLarge c.in-TooLarge.run' c.in-TooLarge.class c.in-TooLarge.rank) _ _ _ c.in-TooLarge.is tt c.too_large_line-line.ensures
     c.refuse_in_memory-in-TooLarge.ensures.told c.refuse_in_memory-in-TooLarge.ensures.wanting
 
 pub returns-in-CertificateLine-clause-ends : goal.returns-in-CertificateLine-clause-ends

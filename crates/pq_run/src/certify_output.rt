@@ -17,7 +17,7 @@ use std::alloc::Global;
 use tower::largest;
 
 /// A certificate of the answer of a presentation, as text.
-pub fn output_as_certificate(
+pub(crate) fn output_as_certificate(
     alloc: Global,
     prime: Prime,
     class: u8,

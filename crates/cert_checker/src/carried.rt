@@ -1,4 +1,4 @@
-//! Whether the images of an answer carry words to the identity.
+//! Whether an answer kills words.
 
 ghost use Rattle.std.specs.Prelude.{◌≡◌, ◌↔◌, length, IsTrue, IfOk};
 ghost use Rattle.pq_base.specs.SignedWord.{HasLetters};

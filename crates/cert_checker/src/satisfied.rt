@@ -40,7 +40,7 @@ pub(crate) fn satisfy_powers(
     true
 }
 
-/// Whether the elements for the generators of an answer satisfy the commutators among its relations.
+/// Whether they satisfy the commutators.
 pub(crate) fn satisfy_commutators(
     bench: &mut Bench,
     pcp: &Pcp,
@@ -64,7 +64,7 @@ pub(crate) fn satisfy_commutators(
     true
 }
 
-/// Whether they satisfy the commutators of generator j + 1, counted from 1, and those before it.
+/// Whether they satisfy the commutators of generator j + 1 and those before it.
 fn satisfy_commutators_of(
     bench: &mut Bench,
     pcp: &Pcp,
@@ -97,7 +97,7 @@ fn satisfy_commutators_of(
     true
 }
 
-/// Whether the elements for the generators of an answer satisfy one of its relations.
+/// Whether they satisfy a relation.
 fn satisfy(
     bench: &mut Bench,
     pcp: &Pcp,
@@ -137,7 +137,7 @@ fn satisfy(
     are_joined(pcp, &bench.left, &bench.right)
 }
 
-/// Makes `value` the value of the left side of a relation under the elements for the generators.
+/// Makes the element the value of the left side of a relation.
 fn left_side(
     s: &mut Scratch<Plain>,
     pcp: &Pcp,
@@ -171,7 +171,7 @@ fn left_side(
     }
 }
 
-/// Whether the words of two elements of a consistent presentation are joined: they are exactly where the exponents are the same.
+/// Whether the words of two elements are joined.
 pub(crate) fn are_joined(pcp: &Pcp, left: &Elem, right: &Elem) -> bool
     requires no_tails { pcp.now.tails ≡ 0 }
     requires consistent { IsConsistent pcp.now.presentation }

@@ -13,7 +13,8 @@ use Rattle.pq_run.specs.declared.command.Form.{Form}
 use Rattle.pq_run.specs.declared.input.Input.{Input}
 use Rattle.pq_run.specs.declared.input.Input.TheVariants.{Presentation}
 use Rattle.pq_run.specs.declared.refusal.Refusal.{Refusal}
-use Rattle.pq_run.specs.declared.refusal.Refusal.TheVariants.{Words, ReadFault, InputTooLong, Text, TooLarge, CertificateLine, CertificatePart, NoMemory}
+use Rattle.pq_run.specs.declared.refusal.Refusal.TheVariants.{Words, ReadFault, InputTooLong, Text, TooLarge, CertificateLine}
+use Rattle.pq_run.specs.declared.refusal.Refusal.TheVariants.{CertificatePart, NoMemory}
 use Rattle.pq_run.specs.Command.{CommandWords, Asks}
 use Rattle.pq_run.specs.Input.{IsWithin, IsAbove}
 use Rattle.pq_run.specs.Texts.{HasLargeRank}
@@ -34,7 +35,8 @@ read_cause p c r (CertificatePart run k part) cause = absurd cause
 read_cause p c r NoMemory cause = tt
 
 -- where the text is told to be what was left in the source
-pub told : (P : List ℕ → Type 0) (text : List ℕ) (left rest : Option (List ℕ)) → IfSome left (λ bytes. (text ≡ bytes) × (rest ≡ Some [])) → P text → IfSome left P
+pub told : (P : List ℕ → Type 0) (text : List ℕ) (left rest : Option (List ℕ)) → IfSome left (λ bytes. (text ≡ bytes) × (rest ≡ Some []))
+    → P text → IfSome left P
 told P text None rest whole holds = tt
 told P text (Some bytes) rest whole holds = subst P whole.0 holds
 

@@ -1,7 +1,8 @@
 -- What a certificate is refused for, or its bytes, the input that gave it is refused for, and so is the command; and a command that came
 -- to the answer of a valid certificate ends with it, or with a first part of it because the sink failed.
 use Rattle.std.specs.Global.{Global}
-use Rattle.std.proofs.Common.{◌≡◌, ℕ, List, Option, Some, IfSome, Result, Ok, Err, IfOk, IfErr, Vec, [], inl, inr, refl, sym, ap, ◌∙◌, subst}
+use Rattle.std.proofs.Common.{◌≡◌, ℕ, List, Option, Some, IfSome, Result, Ok, Err, IfOk, IfErr, Vec, [], inl, inr, refl, sym, ap, ◌∙◌}
+use Rattle.std.proofs.Common.{subst}
 use Rattle.std.proofs.lemmas.Option.{IfSome_then}
 use Rattle.pq_base.specs.declared.status.Status.{Status}
 use Rattle.pq_io.specs.Writing.{Gains, GainsProperPrefix}
@@ -21,7 +22,8 @@ use Rattle.pq_run.specs.declared.command.Command.TheVariants.{Check}
 use Rattle.pq_run.specs.declared.input.Input.{Input}
 use Rattle.pq_run.specs.declared.input.Input.TheVariants.{Certificate}
 use Rattle.pq_run.specs.declared.refusal.Refusal.{Refusal}
-use Rattle.pq_run.specs.declared.refusal.Refusal.TheVariants.{Words, ReadFault, InputTooLong, Text, TooLarge, CertificateLine, CertificatePart, NoMemory}
+use Rattle.pq_run.specs.declared.refusal.Refusal.TheVariants.{Words, ReadFault, InputTooLong, Text, TooLarge, CertificateLine}
+use Rattle.pq_run.specs.declared.refusal.Refusal.TheVariants.{CertificatePart, NoMemory}
 use Rattle.pq_run.specs.Command.{CommandWords, Asks}
 use Rattle.pq_run.specs.Input.{IsWithin, IsAbove}
 use Rattle.pq_run.specs.CheckedTexts.{IsValidText}
@@ -78,7 +80,8 @@ module _ (c : certificates.Certificate) (writable : IsWritable c) (r : Reading) 
   certificate_cause NoMemory cause = tt
 
 -- what is written of a certificate is written of the bytes that are its text
-pub written_of_text : (c : certificates.Certificate) (left : Option (List ℕ)) (written : List ℕ) → IfSome left (λ text. text ≡ certificate_text c)
+pub written_of_text : (c : certificates.Certificate) (left : Option (List ℕ)) (written : List ℕ)
+    → IfSome left (λ text. text ≡ certificate_text c)
     → WritesCheckedAnswer (certificate_text c) written → IfSome left (λ text. WritesCheckedAnswer text written)
 written_of_text c left written reads writes =
     IfSome_then left {P = λ text. text ≡ certificate_text c} {Q = λ text. WritesCheckedAnswer text written} reads
@@ -139,11 +142,13 @@ module _ (words : List (List ℕ)) (spelled : CommandWords words Check) (r : Rea
     ),
   )
 
-  came : (output : List ℕ) → IfSome r.left (IsWithin Certificate) → IfSome r.left (λ text. WritesCheckedAnswer text output) → CameToOutput words r
+  came : (output : List ℕ) → IfSome r.left (IsWithin Certificate) → IfSome r.left (λ text. WritesCheckedAnswer text output)
+      → CameToOutput words r
   came output within writes = record {
     command = (Check, spelled);
     answered = λ reads.
-        IfSome-both (IsWithin Certificate) (λ text. WritesCheckedAnswer text output) (λ bytes. Asks (IsAnswered bytes) words) (answered output)
+        IfSome-both (IsWithin Certificate) (λ text. WritesCheckedAnswer text output) (λ bytes. Asks (IsAnswered bytes) words)
+        (answered output)
         r.left within writes;
     sample = λ asks.
         absurd (Asks-apart IsReading IsSample words (reading-not_sample (λ n. Unit {0})) (Check, spelled, (Certificate, refl)) asks);
@@ -155,7 +160,8 @@ module _ (words : List (List ℕ)) (spelled : CommandWords words Check) (r : Rea
       IfSome_then r.left {P = λ text. WritesCheckedAnswer text output} {Q = λ bytes. HasWritten words bytes P} writes
       (λ bytes w. (output, (Check, spelled, w), holds))
 
-  pub check_ends : (output : List ℕ) (w : Writing) (end : Status) → IfSome r.left (λ text. r.rest ≡ Some []) → IfSome r.left (IsWithin Certificate)
+  pub check_ends : (output : List ℕ) (w : Writing) (end : Status) → IfSome r.left (λ text. r.rest ≡ Some [])
+      → IfSome r.left (IsWithin Certificate)
       → IfSome r.left (λ text. WritesCheckedAnswer text output) → Took w end output → Ends words r w end
   check_ends output w end read within writes (inl all) =
       done all.0 (came output within writes) (record {

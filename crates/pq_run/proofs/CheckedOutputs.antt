@@ -5,7 +5,8 @@ use Rattle.derivation_log.specs.Certificates.{Certificate}
 use Rattle.derivation_log.specs.Validity.{Trial}
 use Rattle.answer_text.specs.AnswerText.{answer_text}
 use Rattle.cert_text.proofs.CertificateLaws.{one_fault_line}
-use Rattle.pq_run.specs.declared.refusal.Refusal.TheVariants.{Words, ReadFault, InputTooLong, Text, TooLarge, CertificateLine, CertificatePart, NoMemory}
+use Rattle.pq_run.specs.declared.refusal.Refusal.TheVariants.{Words, ReadFault, InputTooLong, Text, TooLarge, CertificateLine}
+use Rattle.pq_run.specs.declared.refusal.Refusal.TheVariants.{CertificatePart, NoMemory}
 use Rattle.pq_run.specs.CheckedTexts.{IsValidText}
 use Rattle.pq_run.specs.Output.{WritesAnswer, WritesCertificate, WritesCheckedAnswer, ChecksWhatIsCertified}
 use Rattle.pq_run.specs.Cause.{OneCertRefusal}

@@ -27,7 +27,8 @@ fault-not_failing bytes n run k part fault failing =
     faults_are_no_certificates bytes n fault (failing.certificate, failing.writable, failing.text)
 
 -- one text is that of one certificate
-pub one_certificate : (bytes : List ℕ) (c d : Certificate) → IsWritable c → IsWritable d → bytes ≡ certificate_text c → bytes ≡ certificate_text d
+pub one_certificate : (bytes : List ℕ) (c d : Certificate) → IsWritable c → IsWritable d → bytes ≡ certificate_text c
+    → bytes ≡ certificate_text d
     → c ≡ d
 one_certificate bytes c d x y of_c of_d = one_text_one_certificate c d x y (sym of_c ∙ of_d)
 
@@ -38,7 +39,8 @@ failing-not_valid run k part bytes failing valid =
     valid_certificates_have_no_first_part valid.certificate run k part valid.valid
     (subst (λ (c : Certificate). FirstPart full_kind c run k part) same failing.first)
 
-pub one_failing_part : (bytes : List ℕ) (s t : Trial) → HasFailingPart s.run s.class s.part bytes → HasFailingPart t.run t.class t.part bytes
+pub one_failing_part : (bytes : List ℕ) (s t : Trial) → HasFailingPart s.run s.class s.part bytes
+    → HasFailingPart t.run t.class t.part bytes
     → s ≡ t
 one_failing_part bytes s t x y =
     let same : x.certificate ≡ y.certificate = one_certificate bytes x.certificate y.certificate x.writable y.writable x.text y.text in

@@ -1,5 +1,6 @@
 -- One list of words spells at most one command, so what kind of command words ask for is one thing.
-use Rattle.std.proofs.Common.{◌≡◌, ◌<◌, ◌≤◌, ◌^◌, ℕ, suc, List, [], get_or, length, drop, ◌+◌, ◌*◌, refl, sym, ap, ◌∙◌, subst, decimal, Some, None, arith}
+use Rattle.std.proofs.Common.{◌≡◌, ◌<◌, ◌≤◌, ◌^◌, ℕ, suc, List, [], get_or, length, drop, ◌+◌, ◌*◌, refl, sym, ap, ◌∙◌, subst, decimal}
+use Rattle.std.proofs.Common.{Some, None, arith}
 use Rattle.std.proofs.lemmas.Fmt.{decimal_injective}
 use Rattle.pq_base.specs.declared.prime.Prime.{Prime}
 use Rattle.pq_base.specs.declared.prime.Prime.TheVariants.{P2, P3, P5, P7}
@@ -117,7 +118,8 @@ pub Asks-apart : (K M : Command → Type 0) (words : List (List ℕ)) → ((c : 
 Asks-apart K M words apart a b = apart b.0 (subst K (one_command words a.0 b.0 a.1 b.1) a.2) b.2
 
 -- what follows from what holds of the prime and the class of a command
-pub AtPrimeAndClass-gives : (P : ℕ → ℕ → Type 0) (X : Type 0) → ((p c : ℕ) → P p c → X) → (command : Command) → AtPrimeAndClass P command → X
+pub AtPrimeAndClass-gives : (P : ℕ → ℕ → Type 0) (X : Type 0) → ((p c : ℕ) → P p c → X) → (command : Command)
+    → AtPrimeAndClass P command → X
 AtPrimeAndClass-gives P X gives (Quotient p c form) holds = gives (prime_value p) c holds
 AtPrimeAndClass-gives P X gives Check holds = absurd holds
 AtPrimeAndClass-gives P X gives (Sample n) holds = absurd holds
@@ -130,7 +132,8 @@ AtPrimeAndClass-both P Q X gives Check one other = absurd one
 AtPrimeAndClass-both P Q X gives (Sample n) one other = absurd one
 
 -- what follows from two facts of the number of a sample
-pub AtSample-both : (P Q : ℕ → Type 0) (X : Type 0) → ((n : ℕ) → P n → Q n → X) → (command : Command) → AtSample P command → AtSample Q command → X
+pub AtSample-both : (P Q : ℕ → Type 0) (X : Type 0) → ((n : ℕ) → P n → Q n → X) → (command : Command) → AtSample P command
+    → AtSample Q command → X
 AtSample-both P Q X gives (Quotient p c form) one other = absurd one
 AtSample-both P Q X gives Check one other = absurd one
 AtSample-both P Q X gives (Sample n) one other = gives n one other

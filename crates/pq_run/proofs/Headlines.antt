@@ -65,7 +65,8 @@ module _ (words : List (List ℕ)) (r : Reading) (w : Writing) (done : IsDone wo
       (subst (λ (command : Command). OutputOf command bytes wrote.0) here asked.2) wrote.2
 
   of_told : (left : Option (List ℕ)) → IfSome left (λ bytes. r.rest ≡ Some [])
-      → IfSome left (λ bytes. HasWritten words bytes (Gains w.taken w.then)) → IfSome left (λ bytes. HasAnswered (prime_value p) c bytes r.rest w.taken w.then)
+      → IfSome left (λ bytes. HasWritten words bytes (Gains w.taken w.then))
+      → IfSome left (λ bytes. HasAnswered (prime_value p) c bytes r.rest w.taken w.then)
   of_told None all wrote = tt
   of_told (Some bytes) all wrote = has_answered bytes all wrote
 

@@ -45,7 +45,8 @@ module _ (words : List (List ℕ)) (p : Prime) (c : ℕ) (form : Form) (spelled 
   came within small = record {
     command = (Quotient p c form, spelled);
     answered = λ reads.
-        IfSome-both (IsWithin Presentation) (HasSmallRanks (prime_value p) c) (λ bytes. Asks (IsAnswered bytes) words) answered r.left within small;
+        IfSome-both (IsWithin Presentation) (HasSmallRanks (prime_value p) c) (λ bytes. Asks (IsAnswered bytes) words) answered
+        r.left within small;
     sample = λ asks. absurd (Asks-apart IsReading IsSample words (reading-not_sample (λ n. Unit {0})) reading asks);
   }
 
@@ -55,7 +56,8 @@ module _ (words : List (List ℕ)) (p : Prime) (c : ℕ) (form : Form) (spelled 
       IfSome_then r.left {P = λ text. OutputOf (Quotient p c form) text output} {Q = λ bytes. HasWritten words bytes P} writes
       (λ bytes w. (output, (Quotient p c form, spelled, w), holds))
 
-  pub output_ends : (output : List ℕ) (w : Writing) (end : Status) → IfSome r.left (λ text. r.rest ≡ Some []) → IfSome r.left (IsWithin Presentation)
+  pub output_ends : (output : List ℕ) (w : Writing) (end : Status) → IfSome r.left (λ text. r.rest ≡ Some [])
+      → IfSome r.left (IsWithin Presentation)
       → IfSome r.left (HasSmallRanks (prime_value p) c) → IfSome r.left (λ text. OutputOf (Quotient p c form) text output)
       → Took w end output → Ends words r w end
   output_ends output w end read within small writes (inl all) =

@@ -31,6 +31,7 @@ one_large_sample words run other j k r s x y =
     let same : y.0 ≡ x.0 = one_command words y.0 x.0 y.1 x.1 in
     let here : IsLargeSampleFor other k s x.0 = subst (IsLargeSampleFor other k s) same y.2 in
     let numbers = AtSample-both (HasLargeSampleRank j r) (HasLargeSampleRank k s) ((j ≡ k) × (r ≡ s))
-    (λ n. one_large_order (sample_presentation n) (sample_prime n) sample_class j k r s (offered-two (sample_prime n) (sample_primes_are_offered n)))
+    (λ n. one_large_order (sample_presentation n) (sample_prime n) sample_class j k r s
+    (offered-two (sample_prime n) (sample_primes_are_offered n)))
     x.0 x.2.1 here.1 in
     (x.2.0 ∙ sym here.0, numbers.0, numbers.1)

@@ -14,7 +14,8 @@ use Rattle.cert_text.specs.CertificatePlaces.HasForm.{of_answer}
 use Rattle.cert_text.specs.CertificateFaults.{OneFaultLine, FaultsAreNoCertificates}
 use Rattle.cert_text.proofs.lines.LineByLine.{Leads-same, first_bad-same, IsWhole-same}
 use Rattle.cert_text.proofs.lines.FormLaws.{tells_places}
-use Rattle.cert_text.proofs.lines.CertificateLeads.{front_lines, head, certificate_text-parts, front-leads, answer-form, IsWhole-certificate_text}
+use Rattle.cert_text.proofs.lines.CertificateLeads.{front_lines, head, certificate_text-parts, front-leads, answer-form}
+use Rattle.cert_text.proofs.lines.CertificateLeads.{IsWhole-certificate_text}
 
 -- behind the runs
 abbrev pub IsInAnswer : Place → Type 0
@@ -63,7 +64,8 @@ steps_at (for_run H) = []
 steps_at (in_run H run earlier ss) = ss
 steps_at (in_answer H earlier steps P) = steps
 
-pub certificate-same : (c d : Certificate) → c.version ≡ d.version → head c ≡ head d → c.iterated ≡ d.iterated → c.whole ≡ d.whole → c.answer ≡ d.answer → c ≡ d
+pub certificate-same : (c d : Certificate) → c.version ≡ d.version → head c ≡ head d → c.iterated ≡ d.iterated → c.whole ≡ d.whole
+    → c.answer ≡ d.answer → c ≡ d
 certificate-same c d version head iterated whole answer = λ i. record {
   version = version i;
   presentation = (head i).presentation;

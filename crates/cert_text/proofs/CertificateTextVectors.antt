@@ -72,11 +72,13 @@ dihedral-text = record {
   limits = record {
     some_generator = lit≤ tt;
     generators = lit≤ tt;
-    name_lengths = All-cons (λ n. length n ≤ 32) (120 ∷ []) ((121 ∷ []) ∷ []) (lit≤ tt) (All-cons (λ n. length n ≤ 32) (121 ∷ []) [] (lit≤ tt) (All-nil (λ n. length n ≤ 32)));
+    name_lengths = All-cons (λ n. length n ≤ 32) (120 ∷ []) ((121 ∷ []) ∷ []) (lit≤ tt)
+        (All-cons (λ n. length n ≤ 32) (121 ∷ []) [] (lit≤ tt) (All-nil (λ n. length n ≤ 32)));
     fixed = lit≤ tt;
     iterated = lit≤ tt;
     endos = lit≤ tt;
-    fixed_letters = All-cons IsShort (pos 1 ∷ pos 1 ∷ []) ((pos 2 ∷ pos 2 ∷ []) ∷ []) (lit≤ tt) (All-cons IsShort (pos 2 ∷ pos 2 ∷ []) [] (lit≤ tt) (All-nil IsShort));
+    fixed_letters = All-cons IsShort (pos 1 ∷ pos 1 ∷ []) ((pos 2 ∷ pos 2 ∷ []) ∷ []) (lit≤ tt)
+        (All-cons IsShort (pos 2 ∷ pos 2 ∷ []) [] (lit≤ tt) (All-nil IsShort));
     iterated_letters = All-nil IsShort;
     endo_letters = All-nil AreShort;
     total = lit≤ tt;

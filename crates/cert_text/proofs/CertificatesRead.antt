@@ -1,6 +1,7 @@
--- What was read in front of an answer, and the answer, make the certificate whose text the bytes are; or bytes with a fault in the answer, or
--- with an answer that isn't the certificate's, have their fault there.
-use Rattle.std.proofs.Common.{◌≡◌, ◌≤◌, ◌+◌, ◌-◌, ℕ, zero, suc, Bool, true, false, cond, eqb, List, [], ◌∷◌, ◌++◌, length, refl, ap, sym, subst, ◌∙◌, append_assoc, arith, inl, inr}
+-- What was read in front of an answer, and the answer, make the certificate whose text the bytes are; or bytes with a fault in the answer,
+-- or with an answer that isn't the certificate's, have their fault there.
+use Rattle.std.proofs.Common.{◌≡◌, ◌≤◌, ◌+◌, ◌-◌, ℕ, zero, suc, Bool, true, false, cond, eqb, List, [], ◌∷◌, ◌++◌, length, refl, ap, sym}
+use Rattle.std.proofs.Common.{subst, ◌∙◌, append_assoc, arith, inl, inr}
 use Rattle.std.specs.Prelude.{codes, reverse}
 use Rattle.std.proofs.lemmas.List.{length-append}
 use borrow.Author.Tests.{ne_eqb}
@@ -27,11 +28,13 @@ use Rattle.cert_text.proofs.lines.LineByLine.{Leads-append, Leads-same}
 use Rattle.cert_text.proofs.lines.FormLaws.{tells_places}
 use Rattle.cert_text.proofs.lines.FaultSteps.{IsFirstBad-behind}
 use Rattle.cert_text.proofs.lines.BadLines.{lines-and-line}
-use Rattle.cert_text.proofs.lines.CertificateLeads.{front_lines, head, certificate_text-parts, in_front-leads, in_front-answer, front-leads, answer-form, IsWhole-in_answer}
+use Rattle.cert_text.proofs.lines.CertificateLeads.{front_lines, head, certificate_text-parts, in_front-leads, in_front-answer, front-leads}
+use Rattle.cert_text.proofs.lines.CertificateLeads.{answer-form, IsWhole-in_answer}
 use Rattle.cert_text.proofs.lines.StuckPlaces.{IsFirstBad-answer}
 
 -- lines in front of what is whole, counted
-IsWhole-behind : (P Q : Place) (ls : List (List ℕ)) (rest : List ℕ) (m : ℕ) → Leads Place HasForm P ls Q → IsWhole Place HasForm IsEnd Q rest m
+IsWhole-behind : (P Q : Place) (ls : List (List ℕ)) (rest : List ℕ) (m : ℕ) → Leads Place HasForm P ls Q
+    → IsWhole Place HasForm IsEnd Q rest m
     → IsWhole Place HasForm IsEnd P (text_of_lines ls ++ rest) (length ls + m)
 IsWhole-behind P Q [] rest m lead w =
     let same : m ≡ 0 + m = omega arith in
@@ -45,13 +48,15 @@ newlines-line : (l rest : List ℕ) → avoids 10 l ≡ true → newlines (l ++ 
 newlines-line [] rest one = refl
 newlines-line (b ∷ l) rest one =
     let parts = avoids-parts 10 b l one in
-    ap (λ (c : Bool). cond c (suc (newlines (l ++ 10 ∷ rest))) (newlines (l ++ 10 ∷ rest))) (ne_eqb b 10 parts.0) ∙ newlines-line l rest parts.1
+    ap (λ (c : Bool). cond c (suc (newlines (l ++ 10 ∷ rest))) (newlines (l ++ 10 ∷ rest))) (ne_eqb b 10 parts.0)
+    ∙ newlines-line l rest parts.1
 
 -- as many lines as newlines
 newlines-IsWhole : (P : Place) (bytes : List ℕ) (m : ℕ) → IsWhole Place HasForm IsEnd P bytes m → newlines bytes ≡ m
 newlines-IsWhole P bytes zero w = ap newlines w.1
 newlines-IsWhole P bytes (suc m) w =
-    ap newlines w.4 ∙ newlines-line w.0 w.2 (tells_places.avoids_newline P w.1 w.0 w.3) ∙ ap (λ (n : ℕ). suc n) (newlines-IsWhole w.1 w.2 m w.5)
+    ap newlines w.4 ∙ newlines-line w.0 w.2 (tells_places.avoids_newline P w.1 w.0 w.3)
+    ∙ ap (λ (n : ℕ). suc n) (newlines-IsWhole w.1 w.2 m w.5)
 
 pub newlines-few : (text : List ℕ) → newlines text ≤ length text
 newlines-few [] = omega arith
@@ -60,7 +65,8 @@ newlines-few (b ∷ text) = by (eqb b 10) (newlines-few text) where
   by true few = omega arith
   by false few = omega arith
 
-module _ (bytes : List ℕ) (H : Head) (iterated whole : List StepLines) (rest : List ℕ) (number : ℕ) (read : IsFrontRead bytes H iterated whole rest number) where
+module _ (bytes : List ℕ) (H : Head) (iterated whole : List StepLines) (rest : List ℕ) (number : ℕ)
+    (read : IsFrontRead bytes H iterated whole rest number) where
   abbrev all_lines : List (List ℕ)
   all_lines = lines_in_front H iterated whole ++ codes "answer" ∷ []
 
@@ -69,7 +75,8 @@ module _ (bytes : List ℕ) (H : Head) (iterated whole : List StepLines) (rest :
 
   lead : Leads Place HasForm for_version all_lines place
   lead =
-      Leads-append Place HasForm IsEnd tells_places for_version (in_run H Whole iterated (reverse whole)) place (lines_in_front H iterated whole) (codes "answer" ∷ [])
+      Leads-append Place HasForm IsEnd tells_places for_version (in_run H Whole iterated (reverse whole)) place
+      (lines_in_front H iterated whole) (codes "answer" ∷ [])
       (in_front-leads H iterated whole read.front) (place, in_front-answer H iterated whole read.front, refl)
 
   cut : bytes ≡ text_of_lines all_lines ++ rest
@@ -77,17 +84,21 @@ module _ (bytes : List ℕ) (H : Head) (iterated whole : List StepLines) (rest :
 
   counted : number ≡ suc (length all_lines)
   counted =
-      let longer : length all_lines ≡ length (lines_in_front H iterated whole) + 1 = length-append (lines_in_front H iterated whole) (codes "answer" ∷ []) in
+      let longer : length all_lines ≡ length (lines_in_front H iterated whole) + 1 =
+      length-append (lines_in_front H iterated whole) (codes "answer" ∷ []) in
       let is : number ≡ length (lines_in_front H iterated whole) + 2 = read.numbered in
       omega arith
 
   -- a certificate with this text says the same in front of its answer, and what follows is the text of its answer
-  same-front : (d : Certificate) → IsWritable d → bytes ≡ certificate_text d → (place ≡ in_answer (head d) d.iterated d.whole for_prime) × (rest ≡ answer_text d.answer)
+  same-front : (d : Certificate) → IsWritable d → bytes ≡ certificate_text d → (place ≡ in_answer (head d) d.iterated d.whole for_prime)
+      × (rest ≡ answer_text d.answer)
   same-front d w e =
       Leads-same Place HasForm IsEnd tells_places IsInAnswer stays for_version
-      (in_run H Whole iterated (reverse whole)) place (in_run (head d) Whole d.iterated (reverse d.whole)) (in_answer (head d) d.iterated d.whole for_prime)
+      (in_run H Whole iterated (reverse whole)) place (in_run (head d) Whole d.iterated (reverse d.whole))
+      (in_answer (head d) d.iterated d.whole for_prime)
       (lines_in_front H iterated whole) (front_lines d) (codes "answer") (codes "answer") rest (answer_text d.answer)
-      (in_front-leads H iterated whole read.front) (front-leads d w) (in_front-answer H iterated whole read.front) (answer-form d w) (λ past. past) (λ past. past) tt tt
+      (in_front-leads H iterated whole read.front) (front-leads d w) (in_front-answer H iterated whole read.front) (answer-form d w)
+      (λ past. past) (λ past. past) tt tt
       (sym read.lines ∙ e ∙ certificate_text-parts d)
 
   -- what isn't the text of an answer is not that of a certificate's
@@ -108,7 +119,8 @@ module _ (bytes : List ℕ) (H : Head) (iterated whole : List StepLines) (rest :
   answer-fault (suc k) (inl bad) =
       subst (IsFaultLine bytes) (line-of k)
       (inl (subst (λ (t : List ℕ). IsFirstBad Place HasForm IsEnd for_version t (length all_lines + k)) (sym cut)
-      (IsFirstBad-behind Place HasForm IsEnd tells_places for_version place all_lines rest k lead (IsFirstBad-answer H iterated whole for_prime rest k bad))))
+      (IsFirstBad-behind Place HasForm IsEnd tells_places for_version place all_lines rest k lead
+      (IsFirstBad-answer H iterated whole for_prime rest k bad))))
   answer-fault (suc k) (inr other) =
       let same : length all_lines + suc k ≡ suc (length all_lines + k) = omega arith in
       subst (IsFaultLine bytes) (line-of k)
@@ -122,7 +134,8 @@ module _ (bytes : List ℕ) (H : Head) (iterated whole : List StepLines) (rest :
     pub certificate-read : IsCertificate certificate → IsWritable certificate × (bytes ≡ certificate_text certificate)
     certificate-read is = (
       record { version = refl; certificate = is; presentation = read.front.head.presentation; answer = writable },
-      read.lines ∙ ap (λ (t : List ℕ). text_of_lines (lines_in_front H iterated whole) ++ (codes "answer" ++ 10 ∷ t)) text ∙ sym (certificate_text-parts certificate),
+      read.lines ∙ ap (λ (t : List ℕ). text_of_lines (lines_in_front H iterated whole) ++ (codes "answer" ++ 10 ∷ t)) text
+          ∙ sym (certificate_text-parts certificate),
     )
 
     -- bytes that are some certificate's text are this one's
@@ -131,20 +144,26 @@ module _ (bytes : List ℕ) (H : Head) (iterated whole : List StepLines) (rest :
         let d : Certificate = some.0 in
         let w : IsWritable d = some.1 in
         let same = same-front d w some.2 in
-        let is : d ≡ certificate = certificate-same d certificate w.version (sym (ap head_at same.0)) (sym (ap earlier_at same.0)) (sym (ap steps_at same.0))
+        let is : d ≡ certificate = certificate-same d certificate w.version (sym (ap head_at same.0)) (sym (ap earlier_at same.0))
+        (sym (ap steps_at same.0))
         (one_text_one_answer d.answer A w.answer writable (sym same.1 ∙ text)) in
         subst IsCertificate is w.certificate
 
     -- where the parts make none, the fault is at the last line
     pub end-fault : ¬ IsCertificate certificate → IsFaultLine bytes (number - 1 + newlines rest)
-    end-fault none = by (length (answer_lines A)) (subst (λ (t : List ℕ). answer_faults.IsWhole for_prime t (length (answer_lines A))) (sym text) (IsWhole-answer_text A writable)) where
-      by : (m : ℕ) → answer_faults.IsWhole for_prime rest m → IsFaultLine bytes (number - 1 + newlines rest)
-      by zero w = let bad : for_prime ≡ at_end = w.0 in cc
-      by (suc k) w =
-          let same : length all_lines + suc k ≡ suc (length all_lines + k) = omega arith in
-          let count : newlines rest ≡ suc k = newlines-IsWhole place rest (suc k) (IsWhole-in_answer H iterated whole for_prime rest (suc k) w) in
-          subst (IsFaultLine bytes) (line-of k ∙ ap (λ (n : ℕ). number - 1 + n) (sym count))
-          (inr (subst (λ (n : ℕ). IsWhole Place HasForm IsEnd for_version bytes n) same (whole-behind (suc k) w), λ some. none (this-certificate some)))
+    end-fault none = by (length (answer_lines A)) (subst (λ (t : List ℕ). answer_faults.IsWhole for_prime t (length (answer_lines A)))
+        (sym text) (IsWhole-answer_text A writable)) where
+          by : (m : ℕ) → answer_faults.IsWhole for_prime rest m → IsFaultLine bytes (number - 1 + newlines rest)
+          by zero w = let bad : for_prime ≡ at_end = w.0 in cc
+          by (suc k) w =
+              let same : length all_lines + suc k ≡ suc (length all_lines + k) = omega arith in
+              let count : newlines rest ≡ suc k =
+              newlines-IsWhole place rest (suc k) (IsWhole-in_answer H iterated whole for_prime rest (suc k) w) in
+              subst (IsFaultLine bytes) (line-of k ∙ ap (λ (n : ℕ). number - 1 + n) (sym count))
+              (inr (
+                subst (λ (n : ℕ). IsWhole Place HasForm IsEnd for_version bytes n) same (whole-behind (suc k) w),
+                λ some. none (this-certificate some),
+              ))
 
 -- a fault in the answer is at most behind its last line
 Begins-few : (P : _) (bytes : List ℕ) (m : ℕ) → answer_faults.Begins P bytes m → m ≤ length bytes

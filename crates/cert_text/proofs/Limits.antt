@@ -18,7 +18,8 @@ pub AreNames-All : (names : List (List ℕ)) → All IsName names → AreNames n
 AreNames-All [] h = tt
 AreNames-All (n ∷ ns) h = (All-head IsName n ns h, AreNames-All ns (All-tail IsName n ns h))
 
-pub answer-writable : (A : Answer) (T : TailedPresentation) → T.presentation ≡ A.presentation → IsTailedPresentation T → IsAnswer A → AreNames A.names → answers.IsWritable A
+pub answer-writable : (A : Answer) (T : TailedPresentation) → T.presentation ≡ A.presentation → IsTailedPresentation T → IsAnswer A
+    → AreNames A.names → answers.IsWritable A
 answer-writable A T same is answer names =
     let limit : T.presentation.rank ≤ max_rank = is.rank_limit in
     record {
@@ -28,11 +29,13 @@ answer-writable A T same is answer names =
       answer = answer;
     }
 
-pub IsWritable-parts : (c : Certificate) (L : LPresentation) (A : Answer) (T : TailedPresentation) → L ≡ c.presentation → A ≡ c.answer → IsCertificate c → HasText L
+pub IsWritable-parts : (c : Certificate) (L : LPresentation) (A : Answer) (T : TailedPresentation) → L ≡ c.presentation → A ≡ c.answer
+    → IsCertificate c → HasText L
     → T.presentation ≡ A.presentation → IsTailedPresentation T → IsAnswer A → c.version ≡ 1 → IsWritable c
 IsWritable-parts c L A T l a is text same tailed answer version =
     let texts : HasText c.presentation = subst HasText l text in
-    let names : AreNames A.names = subst AreNames (sym is.names ∙ ap (λ (x : Answer). x.names) (sym a)) (AreNames-All c.presentation.names texts.names) in
+    let names : AreNames A.names = subst AreNames (sym is.names ∙ ap (λ (x : Answer). x.names) (sym a))
+    (AreNames-All c.presentation.names texts.names) in
     record {
       version = version;
       certificate = is;

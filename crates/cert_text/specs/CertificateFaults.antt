@@ -18,7 +18,8 @@ IsCertificateText bytes = (c : Certificate) × IsWritable c × (bytes ≡ certif
 abbrev pub IsFaultLine : List ℕ → ℕ → Type 0
 IsFaultLine bytes zero = ⊥
 IsFaultLine bytes (suc k) =
-    IsFirstBad Place HasForm IsEnd for_version bytes k ⊎ (IsWhole Place HasForm IsEnd for_version bytes (suc k) × (¬ IsCertificateText bytes))
+    IsFirstBad Place HasForm IsEnd for_version bytes k
+    ⊎ (IsWhole Place HasForm IsEnd for_version bytes (suc k) × (¬ IsCertificateText bytes))
 
 abbrev pub IsFaultOf : List ℕ → CertFault → Type 0
 IsFaultOf bytes (Line n) = IsFaultLine bytes n

@@ -56,7 +56,8 @@ pub data Place : Type 0 where
 -- where it makes the lines of the presentation so far those of the canonical text of a presentation
 pub data HasForm : Place → List ℕ → Place → Type 0 where
   version : HasForm for_version (version_line 1) for_generators
-  generators : (L : LPresentation) (line : List ℕ) → HasText L → canonical_lines L ≡ line ∷ [] → HasForm for_generators line (in_presentation L)
+  generators : (L : LPresentation) (line : List ℕ) → HasText L → canonical_lines L ≡ line ∷ []
+      → HasForm for_generators line (in_presentation L)
   item : (L M : LPresentation) (line : List ℕ) → HasText M → canonical_lines M ≡ canonical_lines L ++ line ∷ []
       → HasForm (in_presentation L) line (in_presentation M)
   prime : (L : LPresentation) (p : ℕ) → IsOffered p → HasForm (in_presentation L) (prime_line p) (for_class L p)
@@ -72,7 +73,8 @@ pub data HasForm : Place → List ℕ → Place → Type 0 where
       → are_tail_lines H.prime (length s.sources) (s.tails ++ l ∷ []) 1 (s.tails ++ l ∷ []) ≡ true
       → HasForm (in_run H run earlier (s ∷ ss)) (tail_line l) (in_run H run earlier (with_tail s l ∷ ss))
   second_run : (H : Head) (ss : List StepLines) → HasForm (in_run H Iterated [] ss) (run_line Whole) (in_run H Whole (reverse ss) [])
-  answer : (H : Head) (earlier ss : List StepLines) → HasForm (in_run H Whole earlier ss) (codes "answer") (in_answer H earlier (reverse ss) for_prime)
+  answer : (H : Head) (earlier ss : List StepLines)
+      → HasForm (in_run H Whole earlier ss) (codes "answer") (in_answer H earlier (reverse ss) for_prime)
   of_answer : (H : Head) (earlier steps : List StepLines) (P : answers.Place) (line : List ℕ) (Q : answers.Place) → answers.HasForm P line Q
       → HasForm (in_answer H earlier steps P) line (in_answer H earlier steps Q)
 

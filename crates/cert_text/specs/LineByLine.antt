@@ -1,5 +1,6 @@
 -- Texts that are judged line by line: which lines may stand at a place, and where the first fault is. A last piece without a newline
 -- is no line. The first line that hasn't the form of a line in its place is the fault.
+-- From: this project's own formats.
 use Rattle.std.specs.Prelude.{◌≡◌, ℕ, zero, suc, List, [], ◌∷◌, ◌++◌}
 
 -- by the form of a line between two places

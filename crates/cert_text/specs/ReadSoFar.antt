@@ -1,6 +1,7 @@
 -- What a reader has found so far: lines that have their form, or the first that has none.
 use Rattle.std.specs.List.{AllByRecursion}
-use Rattle.std.specs.Prelude.{◌≡◌, ◌+◌, ℕ, suc, true, List, [], ◌∷◌, ◌++◌, ◌≤◌, ◌⊎◌, Bool, cond, zero, false, eqb, get_or, length, map, reverse, codes}
+use Rattle.std.specs.Prelude.{◌≡◌, ◌+◌, ℕ, suc, true, List, [], ◌∷◌, ◌++◌, ◌≤◌}
+use Rattle.std.specs.Prelude.{◌⊎◌, Bool, cond, zero, false, eqb, get_or, length, map, reverse, codes}
 use Rattle.pq_base.specs.Lines.{text_of_lines}
 use Rattle.pq_base.specs.LPresentation.{LPresentation}
 use Rattle.derivation_log.specs.declared.source.Run.{Run}
@@ -29,7 +30,8 @@ HasNoSource L run rest = (a : RowSource) (more : List ℕ) → is_source_in L ru
 
 -- the line of no tail that may stand behind these in a step of n sources comes next
 abbrev pub HasNoTail : ℕ → ℕ → List TailLine → List ℕ → Type 0
-HasNoTail p n lines rest = (l : TailLine) (more : List ℕ) → are_tail_lines p n (lines ++ l ∷ []) 1 (lines ++ l ∷ []) ≡ true → ¬ (rest ≡ tail_line l ++ 10 ∷ more)
+HasNoTail p n lines rest = (l : TailLine) (more : List ℕ) → are_tail_lines p n (lines ++ l ∷ []) 1 (lines ++ l ∷ []) ≡ true
+    → ¬ (rest ≡ tail_line l ++ 10 ∷ more)
 
 -- no line of a step comes next
 pub record HasNoneOf (L : LPresentation) (p : ℕ) (run : Run) (s : StepLines) (rest : List ℕ) : Type 0 where
@@ -50,7 +52,8 @@ HasNoMore L p run (s ∷ ss) rest = HasNoneOf L p run s rest
 
 -- the text is the lines of some steps of a run, and the rest, which begins with the line of this number, before which no line of the last
 -- step comes
-pub record AreStepsRead (L : LPresentation) (p : ℕ) (run : Run) (text : List ℕ) (first : ℕ) (ss : List StepLines) (rest : List ℕ) (number : ℕ) : Type 0 where
+pub record AreStepsRead (L : LPresentation) (p : ℕ) (run : Run) (text : List ℕ) (first : ℕ) (ss : List StepLines)
+    (rest : List ℕ) (number : ℕ) : Type 0 where
   pub steps : are_steps_in L p run ss ≡ true
   pub lines : text ≡ text_of_lines (steps_lines 0 ss) ++ rest
   pub numbered : number ≡ first + length (steps_lines 0 ss)
@@ -62,13 +65,15 @@ end_line Iterated = run_line Whole
 end_line Whole = codes "answer"
 
 -- the text is the lines of the steps of a run, the line behind them, and the rest, which begins with the line of this number
-pub record IsRunRead (L : LPresentation) (p : ℕ) (run : Run) (text : List ℕ) (first : ℕ) (ss : List StepLines) (rest : List ℕ) (number : ℕ) : Type 0 where
+pub record IsRunRead (L : LPresentation) (p : ℕ) (run : Run) (text : List ℕ) (first : ℕ) (ss : List StepLines)
+    (rest : List ℕ) (number : ℕ) : Type 0 where
   pub steps : are_steps_in L p run ss ≡ true
   pub lines : text ≡ text_of_lines (steps_lines 0 ss) ++ (end_line run ++ 10 ∷ rest)
   pub numbered : number ≡ first + suc (length (steps_lines 0 ss))
 
 -- the text is the lines of all runs, the line in front of the answer, and the rest, which begins with the line of this number
-pub record AreRunsRead (L : LPresentation) (p : ℕ) (text : List ℕ) (first : ℕ) (iterated whole : List StepLines) (rest : List ℕ) (number : ℕ) : Type 0 where
+pub record AreRunsRead (L : LPresentation) (p : ℕ) (text : List ℕ) (first : ℕ) (iterated whole : List StepLines)
+    (rest : List ℕ) (number : ℕ) : Type 0 where
   pub one_run : has_two_runs L ≡ false → iterated ≡ []
   pub iterated_steps : are_steps_in L p Iterated iterated ≡ true
   pub whole_steps : are_steps_in L p Whole whole ≡ true

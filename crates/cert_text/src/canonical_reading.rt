@@ -17,7 +17,7 @@ fn are_same(left: &[u8], right: &[u8]) -> bool
     left == right
 }
 
-/// The presentation of which this is the canonical text.
+/// The presentation of which this is the canonical text, or `None` where it is that of none.
 pub(crate) fn canonical(alloc: Global, text: &[u8]) -> Result<Option<LPres>, NoMemory>
     requires { length text.now < 2 ^ 32 - 1 }
     ensures some { IfOk result (λ o. IfSome o (λ pres. HasText pres × (text.now ≡ canonical_text pres))) }

@@ -13,7 +13,7 @@ use crate::line_splitting::next_line;
 use answer_text::{class_line, prime_line};
 use pq_base::Prime;
 
-/// The class of the line of a class that may be asked for.
+/// The class, from 1 to 60, of the line of a class.
 fn asked_line(line: &[u8]) -> Option<u8>
     ensures some { IfSome result (λ c. line.now ≡ line_of_class c) }
     ensures from_one { IfSome result (λ c. 1 ≤ c) }

@@ -30,7 +30,7 @@ fn is_padded(digits: &[u8]) -> bool
     }
 }
 
-/// A number with one digit more behind it.
+/// The number whose digits are those of a number and one digit more, given as its byte.
 fn with_digit(value: u32, digit: u8) -> u32
     requires { value ≤ 65535 }
     ensures { result ≡ 10 * value + (digit - 48) }
@@ -38,7 +38,7 @@ fn with_digit(value: u32, digit: u8) -> u32
     10 * value + u32::from(digit.saturating_sub(b'0'))
 }
 
-/// The number that is written in these digits.
+/// The number below 65536 that is written in these digits.
 fn number(digits: &[u8]) -> Option<u16>
     requires { AllFail is_no_digit digits.now }
     ensures some { IfSome result (λ n. digits.now ≡ decimal n) }
@@ -57,7 +57,7 @@ fn number(digits: &[u8]) -> Option<u16>
     Some(value as u16)
 }
 
-/// The number at the front of a text, and what follows it, which no digit begins.
+/// The number below 65536 at the front of a text, and what follows it, which no digit begins.
 pub(crate) fn front_number(text: &[u8]) -> Option<(u16, &[u8])>
     ensures some { IfSome result (λ x. text.now ≡ decimal x.0 ++ x.1.now) }
     ensures small { IfSome result (λ x. x.0 < 65536) }

@@ -1,4 +1,5 @@
-// Numbers in texts.
+//! Numbers and paths of endomorphisms, as they are written.
+
 ghost use Rattle.std.specs.Prelude.{◌≡◌, ◌++◌, OnOk, codes, decimal};
 ghost use Rattle.cert_text.specs.CertificateText.{numbers_text, along_text};
 

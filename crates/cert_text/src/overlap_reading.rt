@@ -46,7 +46,8 @@ fn triple(numbers: &[u16]) -> Option<Overlap>
 /// The overlap that a text says behind the keyword `triple`.
 fn triple_behind(alloc: Global, text: &[u8]) -> Result<Option<Overlap>, NoMemory>
     ensures some { IfOk result (λ r. IfSome r (λ o. (overlap_text o ≡ codes "triple" ++ text.now) × (is_written_overlap o ≡ true))) }
-    ensures none { IfOk result (λ r. IfNone r ((k j i : ℕ) → is_written_overlap (Triple k j i) ≡ true → ¬ (text.now ≡ numbers_text (k ∷ j ∷ i ∷ [])))) }
+    ensures none { IfOk result (λ r. IfNone r ((k j i : ℕ) → is_written_overlap (Triple k j i) ≡ true
+        → ¬ (text.now ≡ numbers_text (k ∷ j ∷ i ∷ [])))) }
 {
     let Some(found) = numbers(alloc, text)? else {
         return Ok(None);
@@ -71,7 +72,8 @@ fn left(numbers: &[u16]) -> Option<Overlap>
 /// The overlap that a text says behind the keyword `left`.
 fn left_behind(alloc: Global, text: &[u8]) -> Result<Option<Overlap>, NoMemory>
     ensures some { IfOk result (λ r. IfSome r (λ o. (overlap_text o ≡ codes "left" ++ text.now) × (is_written_overlap o ≡ true))) }
-    ensures none { IfOk result (λ r. IfNone r ((j i : ℕ) → is_written_overlap (Left j i) ≡ true → ¬ (text.now ≡ numbers_text (j ∷ i ∷ [])))) }
+    ensures none { IfOk result (λ r. IfNone r ((j i : ℕ) → is_written_overlap (Left j i) ≡ true
+        → ¬ (text.now ≡ numbers_text (j ∷ i ∷ [])))) }
 {
     let Some(found) = numbers(alloc, text)? else {
         return Ok(None);
@@ -96,7 +98,8 @@ fn right(numbers: &[u16]) -> Option<Overlap>
 /// The overlap that a text says behind the keyword `right`.
 fn right_behind(alloc: Global, text: &[u8]) -> Result<Option<Overlap>, NoMemory>
     ensures some { IfOk result (λ r. IfSome r (λ o. (overlap_text o ≡ codes "right" ++ text.now) × (is_written_overlap o ≡ true))) }
-    ensures none { IfOk result (λ r. IfNone r ((j i : ℕ) → is_written_overlap (Right j i) ≡ true → ¬ (text.now ≡ numbers_text (j ∷ i ∷ [])))) }
+    ensures none { IfOk result (λ r. IfNone r ((j i : ℕ) → is_written_overlap (Right j i) ≡ true
+        → ¬ (text.now ≡ numbers_text (j ∷ i ∷ [])))) }
 {
     let Some(found) = numbers(alloc, text)? else {
         return Ok(None);

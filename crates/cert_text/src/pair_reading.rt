@@ -10,13 +10,14 @@ use answer_text::pieces::behind;
 use pq_base::NoMemory;
 use std::alloc::Global;
 
-/// The number with its coefficient at the front of a text, and what follows it, which no digit begins.
+/// The number below 65536 with its coefficient below 256 at the front of a text, and what follows it, which no digit begins.
 fn front_pair(text: &[u8]) -> Option<((u16, u8), &[u8])>
     ensures some { IfSome result (λ x. text.now ≡ pair_text x.0 ++ x.1.now) }
     ensures small { IfSome result (λ x. IsSmallPair x.0) }
     ensures stops { IfSome result (λ x. StartsWell is_no_digit x.1.now) }
     ensures shorter { IfSome result (λ x. length x.1.now < length text.now) }
-    ensures none { IfNone result ((a : ℕ × ℕ) (rest : List ℕ) → IsSmallPair a → StartsWell is_no_digit rest → ¬ (text.now ≡ pair_text a ++ rest)) }
+    ensures none { IfNone result ((a : ℕ × ℕ) (rest : List ℕ) → IsSmallPair a → StartsWell is_no_digit rest
+        → ¬ (text.now ≡ pair_text a ++ rest)) }
 {
     let (number, rest) = front_number(text)?;
     let (coefficient, rest) = front_number(behind(rest, b":")?)?;
@@ -33,7 +34,8 @@ fn next_pair(text: &[u8]) -> Option<((u16, u8), &[u8])>
     ensures small { IfSome result (λ x. IsSmallPair x.0) }
     ensures stops { IfSome result (λ x. StartsWell is_no_digit x.1.now) }
     ensures shorter { IfSome result (λ x. length x.1.now < length text.now) }
-    ensures none { IfNone result ((a : ℕ × ℕ) (rest : List ℕ) → IsSmallPair a → StartsWell is_no_digit rest → ¬ (text.now ≡ 32 ∷ (pair_text a ++ rest))) }
+    ensures none { IfNone result ((a : ℕ × ℕ) (rest : List ℕ) → IsSmallPair a → StartsWell is_no_digit rest
+        → ¬ (text.now ≡ 32 ∷ (pair_text a ++ rest))) }
 {
     match text {
         [b' ', rest @ ..] => front_pair(rest),
@@ -67,7 +69,8 @@ pub(crate) fn front_pairs(
     ensures small { IfOk result (λ o. IfSome o (λ x. AreSmallPairs x.0.items)) }
     ensures some_pair { IfOk result (λ o. IfSome o (λ x. 1 ≤ length x.0.items)) }
     ensures end { IfOk result (λ o. IfSome o (λ x. EndsPairs x.1.now)) }
-    ensures none { IfOk result (λ o. IfNone o ((a : ℕ × ℕ) (rest : List ℕ) → IsSmallPair a → StartsWell is_no_digit rest → ¬ (text.now ≡ pair_text a ++ rest))) }
+    ensures none { IfOk result (λ o. IfNone o ((a : ℕ × ℕ) (rest : List ℕ) → IsSmallPair a → StartsWell is_no_digit rest
+        → ¬ (text.now ≡ pair_text a ++ rest))) }
 {
     let Some((pair, rest)) = front_pair(text) else {
         return Ok(None);

@@ -44,7 +44,7 @@ fn path_behind(alloc: Global, text: &[u8]) -> Result<Option<Path>, NoMemory>
     }
 }
 
-/// The path that a text says.
+/// The path that a text says: the empty one where the text is empty, else that behind the keyword `along`.
 pub(crate) fn along(alloc: Global, text: &[u8]) -> Result<Option<Path>, NoMemory>
     ensures some { IfOk result (λ r. IfSome r (λ path. text.now ≡ along_text path)) }
     ensures small { IfOk result (λ r. IfSome r (λ path. AllBelow 256 path)) }

@@ -1,4 +1,5 @@
-//! The lines in front of that of the prime, and how many of them are a presentation's.
+//! The lines in front of that of the prime, and how many of them are a presentation's. No line of a presentation's canonical text begins
+//! with `p`, and that of the prime does.
 
 ghost use Rattle.std.specs.Prelude.{◌≡◌, ◌<◌, ◌≤◌, ◌+◌, ◌-◌, ◌^◌, ◌++◌, [], length, IfOk, IfSome, IfNone, IsTrue};
 ghost use Rattle.cert_text.specs.ReadSoFar.{begins_with_p, GoesOnWithP, AreItemLines, first_lines, IsCanonical, IsCanonicalTo};
@@ -73,7 +74,8 @@ fn are_canonical(alloc: Global, text: &[u8], count: u32) -> Result<bool, NoMemor
     Ok(found.is_some())
 }
 
-/// How many lines of a text are canonical, where as many as this aren't.
+/// The number of lines at the front of a text that are the canonical text of a presentation, while one line more is none; or 0 where the
+/// first line alone is none. As many lines as `count` are none. Takes memory, and time for log `count` readings.
 pub(crate) fn canonical_lines(alloc: Global, text: &[u8], count: u32) -> Result<u32, NoMemory>
     requires limit { length text.now < 2 ^ 32 - 1 }
     requires empty { count ≡ 0 → text.now ≡ [] }

@@ -43,7 +43,7 @@ pub fn read(alloc: Global, bytes: &[u8]) -> Result<Cert, CertFault>
     }
 }
 
-/// What stands in front of an answer.
+/// What the lines in front of the answer say.
 #[derive(Drop)]
 struct Front {
     pres: LPres,
@@ -55,7 +55,8 @@ struct Front {
 /// What stands in front of the answer, the answer's text, and the number of its first line; or the first line that has no form.
 fn read_front(alloc: Global, bytes: &[u8]) -> Result<(Front, &[u8], u32), CertFault>
     requires { length bytes.now < 2 ^ 32 - 1 }
-    ensures read { IfOk result (λ x. IsFrontRead bytes.now (head_of x.0.pres (prime_value x.0.prime) x.0.asked) x.0.runs.iterated.items x.0.runs.whole.items x.1.now x.2) }
+    ensures read { IfOk result (λ x. IsFrontRead bytes.now (head_of x.0.pres (prime_value x.0.prime) x.0.asked)
+        x.0.runs.iterated.items x.0.runs.whole.items x.1.now x.2) }
     ensures shorter { IfOk result (λ x. length x.1.now + x.2 ≤ length bytes.now) }
     ensures err { IfErr result (IsBadAt for_version bytes.now 1) }
 {
@@ -74,7 +75,7 @@ fn read_front(alloc: Global, bytes: &[u8]) -> Result<(Front, &[u8], u32), CertFa
     Ok((front, rest, number))
 }
 
-/// The certificate of its parts, or its last line as the fault, where they are none.
+/// The certificate of what was read. Where its parts break a condition of a certificate the fault is at the last line, the answer's end.
 fn certificate(
     bytes: &[u8],
     front: Front,
@@ -82,7 +83,8 @@ fn certificate(
     number: u32,
     answer: Answer,
 ) -> Result<Cert, CertFault>
-    requires front { IsFrontRead bytes.now (head_of front.pres (prime_value front.prime) front.asked) front.runs.iterated.items front.runs.whole.items text.now number }
+    requires front { IsFrontRead bytes.now (head_of front.pres (prime_value front.prime) front.asked)
+        front.runs.iterated.items front.runs.whole.items text.now number }
     requires answer { text.now ≡ answer_text answer }
     requires limit { length text.now + number < 2 ^ 32 }
     ensures text { IfOk result (λ c. bytes.now ≡ certificate_text c) }
@@ -103,7 +105,7 @@ fn certificate(
     }
 }
 
-/// An answer keeps the limits of texts. This takes a step for each of its names.
+/// That an answer keeps the limits of texts: the calls are made for what their contracts say of it. Takes a step for each of its names.
 fn keeps_limits(answer: &Answer)
     ensures { IsWritableAnswer answer.now }
 {
@@ -111,7 +113,7 @@ fn keeps_limits(answer: &Answer)
     are_names(answer.names());
 }
 
-/// Names are names.
+/// That each name is one.
 fn are_names(names: &[Name])
     ensures { All IsName names.now }
 {

@@ -78,8 +78,8 @@ pub(crate) fn read_run<'a>(
     requires { length text.now + first < 2 ^ 32 }
     ensures read { IfOk result (λ x. IsRunRead pres.now (prime_value prime) run text.now first x.0.items x.1.now x.2) }
     ensures shorter { IfOk result (λ x. length x.1.now + x.2 ≤ length text.now + first) }
-    ensures err { IfErr result (λ fault. (H : Head) (earlier : List StepLines) → IsHead H → H.presentation ≡ pres.now → H.prime ≡ prime_value prime
-        → IsBadAt (in_run H run earlier []) text.now first fault) }
+    ensures err { IfErr result (λ fault. (H : Head) (earlier : List StepLines) → IsHead H → H.presentation ≡ pres.now
+        → H.prime ≡ prime_value prime → IsBadAt (in_run H run earlier []) text.now first fault) }
 {
     let (steps, rest, number) = read_steps(alloc, pres, prime, run, text, first)?;
     match behind_end_line(rest, run) {

@@ -32,9 +32,11 @@ pub(crate) fn read_runs<'a>(
     first: u32,
 ) -> Result<(Runs, &'a [u8], u32), CertFault>
     requires { length text.now + first < 2 ^ 32 }
-    ensures read { IfOk result (λ x. AreRunsRead pres.now (prime_value prime) text.now first x.0.iterated.items x.0.whole.items x.1.now x.2) }
+    ensures read { IfOk result (λ x. AreRunsRead pres.now (prime_value prime) text.now first
+        x.0.iterated.items x.0.whole.items x.1.now x.2) }
     ensures shorter { IfOk result (λ x. length x.1.now + x.2 ≤ length text.now + first) }
-    ensures err { IfErr result (λ fault. (H : Head) → IsHead H → H.presentation ≡ pres.now → H.prime ≡ prime_value prime → IsBadAt (for_run H) text.now first fault) }
+    ensures err { IfErr result (λ fault. (H : Head) → IsHead H → H.presentation ≡ pres.now → H.prime ≡ prime_value prime
+        → IsBadAt (for_run H) text.now first fault) }
 {
     if has_two_runs(pres) {
         read_two_runs(alloc, pres, prime, text, first)
@@ -53,9 +55,11 @@ fn read_two_runs<'a>(
 ) -> Result<(Runs, &'a [u8], u32), CertFault>
     requires two { are_two_runs pres.now ≡ true }
     requires limit { length text.now + first < 2 ^ 32 }
-    ensures read { IfOk result (λ x. AreRunsRead pres.now (prime_value prime) text.now first x.0.iterated.items x.0.whole.items x.1.now x.2) }
+    ensures read { IfOk result (λ x. AreRunsRead pres.now (prime_value prime) text.now first
+        x.0.iterated.items x.0.whole.items x.1.now x.2) }
     ensures shorter { IfOk result (λ x. length x.1.now + x.2 ≤ length text.now + first) }
-    ensures err { IfErr result (λ fault. (H : Head) → IsHead H → H.presentation ≡ pres.now → H.prime ≡ prime_value prime → IsBadAt (for_run H) text.now first fault) }
+    ensures err { IfErr result (λ fault. (H : Head) → IsHead H → H.presentation ≡ pres.now → H.prime ≡ prime_value prime
+        → IsBadAt (for_run H) text.now first fault) }
 {
     let Some(lines) = behind(text, b"run iterated\n") else {
         return Err(CertFault::Line(first));
@@ -75,9 +79,11 @@ fn read_only_run<'a>(
 ) -> Result<(Runs, &'a [u8], u32), CertFault>
     requires one { are_two_runs pres.now ≡ false }
     requires limit { length text.now + first < 2 ^ 32 }
-    ensures read { IfOk result (λ x. AreRunsRead pres.now (prime_value prime) text.now first x.0.iterated.items x.0.whole.items x.1.now x.2) }
+    ensures read { IfOk result (λ x. AreRunsRead pres.now (prime_value prime) text.now first
+        x.0.iterated.items x.0.whole.items x.1.now x.2) }
     ensures shorter { IfOk result (λ x. length x.1.now + x.2 ≤ length text.now + first) }
-    ensures err { IfErr result (λ fault. (H : Head) → IsHead H → H.presentation ≡ pres.now → H.prime ≡ prime_value prime → IsBadAt (for_run H) text.now first fault) }
+    ensures err { IfErr result (λ fault. (H : Head) → IsHead H → H.presentation ≡ pres.now → H.prime ≡ prime_value prime
+        → IsBadAt (for_run H) text.now first fault) }
 {
     let Some(lines) = behind(text, b"run whole\n") else {
         return Err(CertFault::Line(first));

@@ -1,4 +1,5 @@
-// The lines of sources.
+//! The lines of sources.
+
 ghost use Rattle.std.specs.Prelude.{◌≡◌, ◌++◌, [], ◌∷◌, OnOk, map};
 ghost use Rattle.pq_base.specs.Lines.{text_of_lines};
 ghost use Rattle.derivation_log.specs.declared.source.RowSource.TheVariants.{Fixed, Iterated};

@@ -48,7 +48,8 @@ pub(crate) fn source_line(
 fn source(alloc: Global, text: &[u8]) -> Result<Option<RowSource>, NoMemory>
     ensures some { IfOk result (λ o. IfSome o (λ a. text.now ≡ source_text a)) }
     ensures written { IfOk result (λ o. IfSome o (λ a. IsWrittenSource a)) }
-    ensures none { IfOk result (λ o. IfNone o ((L : LPresentation) (run : RunData) (a : RowSourceData) → IsWithinLimits L → is_named L run a ≡ true → ¬ (text.now ≡ source_text a))) }
+    ensures none { IfOk result (λ o. IfNone o ((L : LPresentation) (run : RunData) (a : RowSourceData) → IsWithinLimits L
+        → is_named L run a ≡ true → ¬ (text.now ≡ source_text a))) }
 {
     if let Some(rest) = behind(text, b"fixed") {
         return Ok(fixed_behind(rest));
@@ -80,7 +81,8 @@ fn fixed_behind(text: &[u8]) -> Option<RowSource>
 fn iterated_behind(alloc: Global, text: &[u8]) -> Result<Option<RowSource>, NoMemory>
     ensures some { IfOk result (λ o. IfSome o (λ a. codes "iterated" ++ text.now ≡ source_text a)) }
     ensures written { IfOk result (λ o. IfSome o (λ a. IsWrittenSource a)) }
-    ensures none { IfOk result (λ o. IfNone o ((i : ℕ) (s : List ℕ) → i < 65536 → AllBelow 256 s → ¬ (text.now ≡ numbers_text (i ∷ []) ++ along_text s))) }
+    ensures none { IfOk result (λ o. IfNone o ((i : ℕ) (s : List ℕ) → i < 65536 → AllBelow 256 s
+        → ¬ (text.now ≡ numbers_text (i ∷ []) ++ along_text s))) }
 {
     let Some((relator, rest)) = next_number(text) else {
         return Ok(None);

@@ -67,7 +67,8 @@ fn next_tail<'a>(
 ) -> Result<Option<(CertTail, &'a [u8])>, NoMemory>
     requires { are_tail_lines (prime_value prime) n lines.now 1 lines.now ≡ true }
     ensures some { IfOk result (λ o. IfSome o (λ x. text.now ≡ text_of_tail x.0 ++ 10 ∷ x.1.now)) }
-    ensures next { IfOk result (λ o. IfSome o (λ x. are_tail_lines (prime_value prime) n (lines.now ++ x.0 ∷ []) 1 (lines.now ++ x.0 ∷ []) ≡ true)) }
+    ensures next { IfOk result (λ o. IfSome o
+        (λ x. are_tail_lines (prime_value prime) n (lines.now ++ x.0 ∷ []) 1 (lines.now ++ x.0 ∷ []) ≡ true)) }
     ensures shorter { IfOk result (λ o. IfSome o (λ x. length x.1.now + 1 ≤ length text.now)) }
     ensures none { IfOk result (λ o. IfNone o (HasNoTail (prime_value prime) n lines.now text.now)) }
 {

@@ -1,4 +1,5 @@
-// The lines of tails.
+//! The lines of tails.
+
 ghost use Rattle.std.specs.Prelude.{◌≡◌, ◌++◌, [], ◌∷◌, OnOk, map};
 ghost use Rattle.pq_base.specs.Lines.{text_of_lines};
 ghost use Rattle.cert_text.specs.CertificateText.{pair_text, further_pairs_text, pairs_text, kept_text, tail_line};
@@ -31,7 +32,7 @@ fn push_tail_line(out: &mut Vec<u8>, line: &CertTail) -> Result<(), NoMemory>
     Ok(())
 }
 
-/// What a tail equals.
+/// What a tail equals: tails with their coefficients, or 0.
 fn push_kept(out: &mut Vec<u8>, kept: &[(u16, u8)]) -> Result<(), NoMemory>
     ensures { OnOk result (out.new.items ≡ out.old.items ++ kept_text kept.now) }
 {

@@ -24,9 +24,10 @@ pub(crate) fn tail_line(
 ) -> Result<Option<CertTail>, NoMemory>
     requires { are_tail_lines (prime_value prime) n lines.now 1 lines.now ≡ true }
     ensures some { IfOk result (λ o. IfSome o (λ l. line.now ≡ tail_line l)) }
-    ensures next { IfOk result (λ o. IfSome o (λ l. are_tail_lines (prime_value prime) n (lines.now ++ l ∷ []) 1 (lines.now ++ l ∷ []) ≡ true)) }
-    ensures none { IfOk result (λ o. IfNone o ((l : TailLine) → are_tail_lines (prime_value prime) n (lines.now ++ l ∷ []) 1 (lines.now ++ l ∷ []) ≡ true
-        → ¬ (line.now ≡ tail_line l))) }
+    ensures next { IfOk result (λ o. IfSome o
+        (λ l. are_tail_lines (prime_value prime) n (lines.now ++ l ∷ []) 1 (lines.now ++ l ∷ []) ≡ true)) }
+    ensures none { IfOk result (λ o. IfNone o ((l : TailLine)
+        → are_tail_lines (prime_value prime) n (lines.now ++ l ∷ []) 1 (lines.now ++ l ∷ []) ≡ true → ¬ (line.now ≡ tail_line l))) }
 {
     let Some(found) = tail(alloc, line)? else {
         return Ok(None);
@@ -83,7 +84,8 @@ fn kept_and_sums(
 fn kept(alloc: Global, text: &[u8]) -> Result<Option<(Vec<(u16, u8)>, &[u8])>, NoMemory>
     ensures some { IfOk result (λ o. IfSome o (λ x. text.now ≡ kept_text x.0.items ++ (codes " by " ++ x.1.now))) }
     ensures small { IfOk result (λ o. IfSome o (λ x. AreSmallPairs x.0.items)) }
-    ensures none { IfOk result (λ o. IfNone o ((kept : List (ℕ × ℕ)) (rest : List ℕ) → AreSmallPairs kept → ¬ (text.now ≡ kept_text kept ++ (codes " by " ++ rest)))) }
+    ensures none { IfOk result (λ o. IfNone o ((kept : List (ℕ × ℕ)) (rest : List ℕ) → AreSmallPairs kept
+        → ¬ (text.now ≡ kept_text kept ++ (codes " by " ++ rest)))) }
 {
     if let Some(rest) = behind(text, b"0 by ") {
         return Ok(Some((Vec::new(alloc), rest)));
@@ -101,7 +103,8 @@ fn kept(alloc: Global, text: &[u8]) -> Result<Option<(Vec<(u16, u8)>, &[u8])>, N
 fn pairs(alloc: Global, text: &[u8]) -> Result<Option<Vec<(u16, u8)>>, NoMemory>
     ensures some { IfOk result (λ o. IfSome o (λ sums. text.now ≡ pairs_text sums.items)) }
     ensures small { IfOk result (λ o. IfSome o (λ sums. AreSmallPairs sums.items)) }
-    ensures none { IfOk result (λ o. IfNone o ((sums : List (ℕ × ℕ)) → AreSmallPairs sums → 1 ≤ length sums → ¬ (text.now ≡ pairs_text sums))) }
+    ensures none { IfOk result (λ o. IfNone o ((sums : List (ℕ × ℕ)) → AreSmallPairs sums → 1 ≤ length sums
+        → ¬ (text.now ≡ pairs_text sums))) }
 {
     let Some((pairs, rest)) = front_pairs(alloc, text)? else {
         return Ok(None);

@@ -1,4 +1,5 @@
-// The text of a certificate, part by part.
+//! The text of a certificate, part by part.
+
 ghost use Rattle.std.specs.Prelude.{◌≡◌, ◌++◌, [], ◌∷◌, OnOk, IfOk, codes};
 ghost use Rattle.pq_base.specs.Lines.{text_of_lines};
 ghost use Rattle.pq_base.specs.Prime.{prime_value};
@@ -6,7 +7,8 @@ ghost use Rattle.lpres_reader.specs.CanonicalText.{canonical_text};
 ghost use Rattle.answer_text.specs.AnswerText.{answer_text};
 ghost use Rattle.answer_text.specs.AnswerPlaces.{prime_line, class_line};
 ghost use Rattle.derivation_log.specs.Certificates.{has_two_runs as are_two_runs};
-ghost use Rattle.cert_text.specs.CertificateText.{version_line, step_line, step_lines, steps_lines, run_line, run_lines, iterated_lines, certificate_text, IsWritable};
+ghost use Rattle.cert_text.specs.CertificateText.{version_line, step_line, step_lines, steps_lines, run_line, run_lines, iterated_lines};
+ghost use Rattle.cert_text.specs.CertificateText.{certificate_text, IsWritable};
 
 use crate::source_lines::push_sources;
 use crate::tail_lines::push_tails;
@@ -32,7 +34,7 @@ pub fn write(alloc: Global, cert: &Cert) -> Result<Vec<u8>, NoMemory>
     Ok(out)
 }
 
-/// A certificate keeps the limits of texts. This takes no step.
+/// That a certificate of version 1 keeps the limits of texts: the calls are made for what their contracts say of it. Takes no step.
 fn keeps_limits(cert: &Cert)
     ensures { cert.now.version ≡ 1 → IsWritable cert.now }
 {

@@ -17,7 +17,9 @@ use Rattle.derivation_log.specs.Certificates.{Certificate, has_two_runs, steps_o
 use Rattle.derivation_log.specs.PlainValues.{MakeMap, InducesPlainly, images_of}
 use Rattle.derivation_log.specs.CertificateParts.{full_kind, OverlapsAgree, AreCarriedToIdentity, built_by}
 use Rattle.derivation_log.specs.Validity.{Keeps, judges_endos}
-use Rattle.certified_runs.specs.RunLaws.{IsRunTo, StepsPass, IsWithinLimits, StepsGiveAnswers, RunsAreNotShort, RunsBuildTheirAnswers, OverlapsOfConsistentAnswersAgree, KilledWordsAreCarried, EndomorphismsInducePlainly, ImagesMakeMaps, IsRunToLargest, HasFirstRun, CertificatesOfRunsAreValid}
+use Rattle.certified_runs.specs.RunLaws.{IsRunTo, StepsPass, IsWithinLimits, StepsGiveAnswers, RunsAreNotShort, RunsBuildTheirAnswers}
+use Rattle.certified_runs.specs.RunLaws.{OverlapsOfConsistentAnswersAgree, KilledWordsAreCarried, EndomorphismsInducePlainly}
+use Rattle.certified_runs.specs.RunLaws.{ImagesMakeMaps, IsRunToLargest, HasFirstRun, CertificatesOfRunsAreValid}
 use Rattle.derivation_log.specs.ValidParts.{KeepsStep, KeepsRun, KeepsAll}
 use Rattle.derivation_log.proofs.ValidParts.{keeps-valid}
 use Rattle.derivation_log.proofs.PassedRuns.{PassesSteps, held-run-passes}

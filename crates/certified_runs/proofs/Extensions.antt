@@ -1,6 +1,7 @@
 -- Each answer that a run builds extends those before it: right sides and lists of the earlier answer stand in front of those of the
 -- later one. This is so whether or not what is built is an answer.
-use Rattle.std.proofs.Common.{◌≡◌, ℕ, zero, suc, ◌+◌, ◌-◌, ◌<◌, ◌≤◌, List, [], ◌∷◌, ◌++◌, length, get_or, map, replicate, refl, ap, ap₂, sym, ◌∙◌, arith, Option, ⊎_elim, length-append, append_assoc}
+use Rattle.std.proofs.Common.{◌≡◌, ℕ, zero, suc, ◌+◌, ◌-◌, ◌<◌, ◌≤◌, List, [], ◌∷◌, ◌++◌, length, get_or, map, replicate, refl, ap, ap₂}
+use Rattle.std.proofs.Common.{sym, ◌∙◌, arith, Option, ⊎_elim, length-append, append_assoc}
 use Rattle.std.proofs.lemmas.Bool.{cases_lt}
 use Rattle.std.proofs.lemmas.List.{append-nil, length-map, length-replicate, get_or_append_left, get_or-append-add}
 use Rattle.std.proofs.Math.ListN.{get_or-map}
@@ -8,7 +9,8 @@ use Rattle.pq_base.specs.Presentation.{power_side, commutator_side}
 use Rattle.pq_base.specs.Answer.{Answer, Definition as Source, IsAnswer, class_of}
 use Rattle.fp_echelon.specs.Reduced.{BasisRow}
 use Rattle.pc_presentation.specs.Relation.{PerRelation}
-use Rattle.pc_presentation.specs.Rowed.{RowedPresentation, power_row, commutator_row, followed_by, tables_followed_by, tail_powers, tail_commutators, flat}
+use Rattle.pc_presentation.specs.Rowed.{RowedPresentation, power_row, commutator_row, followed_by, tables_followed_by, tail_powers}
+use Rattle.pc_presentation.specs.Rowed.{tail_commutators, flat}
 use Rattle.pc_presentation.specs.Pcp.{HasShape, row_of}
 use Rattle.pc_presentation.proofs.presentations.RelationTables.{per_relation-shape}
 use Rattle.pc_presentation.proofs.rows.FlatLaws.{length-followed_by, get_or-followed_by}

@@ -1,6 +1,7 @@
 -- Elements of a consistent answer make a map of another answer into it, where what its generators spell under their words satisfies
 -- its relations, and makes its images these words.
-use Rattle.std.proofs.Common.{◌≡◌, ℕ, zero, suc, ◌+◌, ◌-◌, ◌<◌, ℤ, List, [], ◌∷◌, ◌++◌, length, get_or, map, refl, ap, ap₂, sym, ◌∙◌, subst, arith, append_assoc}
+use Rattle.std.proofs.Common.{◌≡◌, ℕ, zero, suc, ◌+◌, ◌-◌, ◌<◌, ℤ, List, [], ◌∷◌, ◌++◌, length, get_or, map, refl, ap, ap₂, sym, ◌∙◌, subst}
+use Rattle.std.proofs.Common.{arith, append_assoc}
 use Rattle.std.proofs.lemmas.List.{length-map, append-nil, get_or_default}
 use Rattle.std.proofs.Math.ListN.{get_or-map}
 use Rattle.pq_base.specs.SignedWord.{inv, copies, comm, sub, HasLetters}
@@ -12,16 +13,20 @@ use Rattle.pq_base.specs.Answer.{Answer, Definition, IsAnswer, HasDefinition, de
 use Rattle.pq_base.specs.Answer.Definition.{image, commutator, power}
 use Rattle.pq_base.specs.EntryWords.{spelling_words}
 use Rattle.pq_base.proofs.words.WordLaws.{sub-append, sub-inv, sub-copies, sub-comm, append-copies}
-use Rattle.pq_base.proofs.words.LetterLaws.{HasLetters-get_or, HasLetters-copies, HasLetters-comm, HasLetters-letter, HasLetters-power_word, HasLetters-commutator_word, HasLetters-sub}
-use Rattle.pq_base.proofs.words.JoinedLaws.{joined-sym, joined-trans, joined-from_equal, joined-append, joined-append_right, joined-copies, joined-comm, joined-from_quotient, append-swap-joined}
+use Rattle.pq_base.proofs.words.LetterLaws.{HasLetters-get_or, HasLetters-copies, HasLetters-comm, HasLetters-letter, HasLetters-power_word}
+use Rattle.pq_base.proofs.words.LetterLaws.{HasLetters-commutator_word, HasLetters-sub}
+use Rattle.pq_base.proofs.words.JoinedLaws.{joined-sym, joined-trans, joined-from_equal, joined-append, joined-append_right, joined-copies}
+use Rattle.pq_base.proofs.words.JoinedLaws.{joined-comm, joined-from_quotient, append-swap-joined}
 use Rattle.pq_base.proofs.words.WordGroup.{joined-sub_same}
 use Rattle.pq_base.proofs.words.SpelledLists.{RefersBefore, spelled-at, definition-refers}
 use Rattle.pc_presentation.specs.Rowed.{without_rows}
 use Rattle.pc_presentation.specs.Collection.{State, IsState}
 use Rattle.pc_presentation.specs.Arithmetic.{word_of}
 use Rattle.cover_quotient.proofs.stages.ImageNumbers.{AreWords-image_words}
-use Rattle.derivation_log.specs.PlainValues.{identity_of, plain_product, plain_power, HaveOneValue, IsDefinedValue, AreDefinedValues, AreSatisfied, MakeMap}
-use Rattle.derivation_log.proofs.PlainGroups.{AreElements, element-get_or, one-state, one-word, product-word, product-element, same-elements, IsElementOf, element, value-known, power-element, power-joined, word-at}
+use Rattle.derivation_log.specs.PlainValues.{identity_of, plain_product, plain_power, HaveOneValue, IsDefinedValue, AreDefinedValues}
+use Rattle.derivation_log.specs.PlainValues.{AreSatisfied, MakeMap}
+use Rattle.derivation_log.proofs.PlainGroups.{AreElements, element-get_or, one-state, one-word, product-word, product-element}
+use Rattle.derivation_log.proofs.PlainGroups.{same-elements, IsElementOf, element, value-known, power-element, power-joined, word-at}
 use Rattle.certified_runs.proofs.LargestMaps.{spelled_under, spelled_under-at, spelled_under-words, length-spelling_words}
 
 module _ (A : Answer) (is : IsAnswer A) (consistent : IsConsistent A.presentation) where

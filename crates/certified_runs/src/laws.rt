@@ -1,7 +1,9 @@
 //! What is proved of the certificates that are made of runs. The functions do nothing: each states a law as its clause.
 
 ghost use Rattle.derivation_log.specs.declared.part.Part.TheVariants.{Extra, Row, Sum};
-ghost use Rattle.certified_runs.specs.RunLaws.{StepsPass, StepsGiveAnswers, RunsNameFewSources, RunsAreNotShort, RunsBuildTheirAnswers, OverlapsOfConsistentAnswersAgree, KilledWordsAreCarried, EndomorphismsInducePlainly, ImagesMakeMaps, CertificatesOfRunsAreValid};
+ghost use Rattle.certified_runs.specs.RunLaws.{StepsPass, StepsGiveAnswers, RunsNameFewSources, RunsAreNotShort, RunsBuildTheirAnswers};
+ghost use Rattle.certified_runs.specs.RunLaws.{OverlapsOfConsistentAnswersAgree, KilledWordsAreCarried, EndomorphismsInducePlainly};
+ghost use Rattle.certified_runs.specs.RunLaws.{ImagesMakeMaps, CertificatesOfRunsAreValid};
 
 /// No step of a run is above the class that is asked for, or behind one that kept no tail.
 pub fn steps_are_not_extra()
@@ -13,7 +15,7 @@ pub fn steps_have_plain_rows()
     ensures { StepsPass Row }
 {}
 
-/// Each line is a sum of these rows.
+/// Each line of a step is a sum of the rows of the sources that the step names, by the plain rule.
 pub fn lines_are_sums_of_rows()
     ensures { StepsPass Sum }
 {}

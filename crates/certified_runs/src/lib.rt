@@ -1,4 +1,4 @@
-//! The certificate made of what a full log holds after a run is valid, part by part.
+//! A certificate made of the steps of runs to largest quotients, by the plain rule over full covers, is valid, part by part.
 #![tactic(auto)]
 
 pub mod laws;

@@ -1,7 +1,8 @@
 -- What a certificate is refused for, or its bytes, the input that gave it is refused for, and so is the command; and a command that came
 -- to the answer of a valid certificate ends with it, or with a first part of it because the sink failed.
 use Rattle.std.specs.Global.{Global}
-use Rattle.std.proofs.Common.{◌≡◌, ℕ, List, Option, Some, IfSome, Result, Ok, Err, IfOk, IfErr, Vec, [], inl, inr, refl, sym, ap, ◌∙◌, subst}
+use Rattle.std.proofs.Common.{◌≡◌, ℕ, List, Option, Some, IfSome, Result, Ok, Err, IfOk, IfErr, Vec, [], inl, inr, refl, sym, ap, ◌∙◌}
+use Rattle.std.proofs.Common.{subst}
 use Rattle.std.proofs.lemmas.Option.{IfSome_then}
 use Rattle.pq_base.specs.declared.status.Status.{Status}
 use Rattle.pq_io.specs.Writing.{Gains, GainsProperPrefix}
@@ -21,7 +22,8 @@ use Rattle.pq_run.specs.declared.command.Command.TheVariants.{Check}
 use Rattle.pq_run.specs.declared.input.Input.{Input}
 use Rattle.pq_run.specs.declared.input.Input.TheVariants.{Certificate}
 use Rattle.pq_run.specs.declared.refusal.Refusal.{Refusal}
-use Rattle.pq_run.specs.declared.refusal.Refusal.TheVariants.{Words, ReadFault, InputTooLong, Text, TooLarge, CertificateLine, CertificatePart, NoMemory}
+use Rattle.pq_run.specs.declared.refusal.Refusal.TheVariants.{Words, ReadFault, InputTooLong, Text, TooLarge, CertificateLine}
+use Rattle.pq_run.specs.declared.refusal.Refusal.TheVariants.{CertificatePart, NoMemory}
 use Rattle.pq_run.specs.Command.{CommandWords, Asks}
 use Rattle.pq_run.specs.Input.{IsWithin, IsAbove}
 use Rattle.pq_run.specs.CheckedTexts.{IsValidText}
@@ -29,13 +31,13 @@ use Rattle.pq_run.specs.Kinds.{ReadsInput, IsReading, IsAnswered, IsSample}
 use Rattle.pq_run.specs.Output.{WritesCheckedAnswer}
 use Rattle.pq_run.specs.Refusals.{refusal_of_fault, refusal_of_check}
 use Rattle.pq_run.specs.Streams.{Reading, Writing}
-use Rattle.pq_run.specs.Cause.{IsReadCause, IsCheckedTextCause, HasCheckedTextCause, IsCertificateCause, IsCheckCause, IsCause}
+use Rattle.pq_run.specs.Cause.{IsReadCause, IsCertificateTextCause, HasCertificateTextCause, IsCertificateCause, IsCheckCause, IsCause}
 use Rattle.pq_run.specs.Ends.{HasWritten, CameToOutput, Ends}
 use Rattle.pq_run.specs.Ends.Ends.{done, cut}
 use Rattle.pq_run.proofs.Commands.{Asks-apart, reading-not_sample}
 use Rattle.pq_run.proofs.Causes.{told, IfSome-both}
 use Rattle.pq_run.proofs.OutputEnds.{Took}
-use Rattle.pq_run.proofs.CheckedTexts.{checked-largest, checked-canonical}
+use Rattle.pq_run.proofs.CheckedTexts.{checked-largest, checked-canonical, checked-class, checked-exact}
 
 -- what an input is refused for before its text is read
 pub read_cause : (r : Reading) (refusal : Refusal) → IsReadCause Certificate r refusal → IsCheckCause r refusal
@@ -43,7 +45,7 @@ read_cause r Words cause = absurd cause
 read_cause r ReadFault cause = cause
 read_cause r (InputTooLong input) cause = cause
 read_cause r (Text fault) cause = absurd cause
-read_cause r (TooLarge part k rank) cause = absurd cause
+read_cause r (TooLarge run k rank) cause = absurd cause
 read_cause r (CertificateLine n) cause = absurd cause
 read_cause r (CertificatePart run k part) cause = absurd cause
 read_cause r NoMemory cause = tt
@@ -52,8 +54,8 @@ read_cause r NoMemory cause = tt
 pub unread_cause : (text items : List ℕ) (r : Reading) (e : CertFault) → text ≡ items → IsWithin Certificate items
     → IfSome r.left (λ bytes. (items ≡ bytes) × (r.rest ≡ Some [])) → IsFaultOf text e → IsCheckCause r (refusal_of_fault e)
 unread_cause text items r (fault.Line n) same within whole cause =
-    told (λ bytes. IsWithin Certificate bytes × IsCheckedTextCause bytes (CertificateLine n)) items r.left r.rest whole
-    (within, subst (λ (bytes : List ℕ). IsCheckedTextCause bytes (CertificateLine n)) same cause)
+    told (λ bytes. IsWithin Certificate bytes × IsCertificateTextCause bytes (CertificateLine n)) items r.left r.rest whole
+    (within, subst (λ (bytes : List ℕ). IsCertificateTextCause bytes (CertificateLine n)) same cause)
 unread_cause text items r fault.NoMemory same within whole cause = tt
 
 -- what a certificate is refused for by the checker
@@ -69,16 +71,17 @@ module _ (c : certificates.Certificate) (writable : IsWritable c) (r : Reading) 
   certificate_cause ReadFault cause = absurd cause
   certificate_cause (InputTooLong input) cause = absurd cause
   certificate_cause (Text fault) cause = absurd cause
-  certificate_cause (TooLarge part k rank) cause = absurd cause
+  certificate_cause (TooLarge run k rank) cause = absurd cause
   certificate_cause (CertificateLine n) cause = absurd cause
   certificate_cause (CertificatePart run k part) cause =
       IfSome-both (IsWithin Certificate) (λ text. text ≡ certificate_text c)
-      (λ bytes. IsWithin Certificate bytes × IsCheckedTextCause bytes (CertificatePart run k part))
+      (λ bytes. IsWithin Certificate bytes × IsCertificateTextCause bytes (CertificatePart run k part))
       (λ bytes small text. (small, record { certificate = c; writable = writable; text = text; first = cause })) r.left within reads
   certificate_cause NoMemory cause = tt
 
 -- what is written of a certificate is written of the bytes that are its text
-pub written_of_text : (c : certificates.Certificate) (left : Option (List ℕ)) (written : List ℕ) → IfSome left (λ text. text ≡ certificate_text c)
+pub written_of_text : (c : certificates.Certificate) (left : Option (List ℕ)) (written : List ℕ)
+    → IfSome left (λ text. text ≡ certificate_text c)
     → WritesCheckedAnswer (certificate_text c) written → IfSome left (λ text. WritesCheckedAnswer text written)
 written_of_text c left written reads writes =
     IfSome_then left {P = λ text. text ≡ certificate_text c} {Q = λ text. WritesCheckedAnswer text written} reads
@@ -94,6 +97,8 @@ written_of_certificate c A written writable valid same told = record {
   valid = valid;
   largest = checked-largest c writable valid;
   canonical = checked-canonical c writable valid;
+  class = checked-class c writable valid;
+  exact = checked-exact c writable valid;
   text = told ∙ ap answer_text same;
 }
 
@@ -122,7 +127,7 @@ module _ (words : List (List ℕ)) (spelled : CommandWords words Check) (r : Rea
     subst (λ (x : Input). IfSome r.left (IsAbove x)) (sym cause.0) cause.1,
   )
   input_cause (Text fault) cause = absurd cause
-  input_cause (TooLarge part k rank) cause = absurd cause
+  input_cause (TooLarge run k rank) cause = absurd cause
   input_cause (CertificateLine n) cause = (asks_certificate, cause)
   input_cause (CertificatePart run k part) cause = (asks_certificate, cause)
   input_cause NoMemory cause = (Check, spelled)
@@ -137,11 +142,13 @@ module _ (words : List (List ℕ)) (spelled : CommandWords words Check) (r : Rea
     ),
   )
 
-  came : (output : List ℕ) → IfSome r.left (IsWithin Certificate) → IfSome r.left (λ text. WritesCheckedAnswer text output) → CameToOutput words r
+  came : (output : List ℕ) → IfSome r.left (IsWithin Certificate) → IfSome r.left (λ text. WritesCheckedAnswer text output)
+      → CameToOutput words r
   came output within writes = record {
     command = (Check, spelled);
     answered = λ reads.
-        IfSome-both (IsWithin Certificate) (λ text. WritesCheckedAnswer text output) (λ bytes. Asks (IsAnswered bytes) words) (answered output)
+        IfSome-both (IsWithin Certificate) (λ text. WritesCheckedAnswer text output) (λ bytes. Asks (IsAnswered bytes) words)
+        (answered output)
         r.left within writes;
     sample = λ asks.
         absurd (Asks-apart IsReading IsSample words (reading-not_sample (λ n. Unit {0})) (Check, spelled, (Certificate, refl)) asks);
@@ -153,7 +160,8 @@ module _ (words : List (List ℕ)) (spelled : CommandWords words Check) (r : Rea
       IfSome_then r.left {P = λ text. WritesCheckedAnswer text output} {Q = λ bytes. HasWritten words bytes P} writes
       (λ bytes w. (output, (Check, spelled, w), holds))
 
-  pub check_ends : (output : List ℕ) (w : Writing) (end : Status) → IfSome r.left (λ text. r.rest ≡ Some []) → IfSome r.left (IsWithin Certificate)
+  pub check_ends : (output : List ℕ) (w : Writing) (end : Status) → IfSome r.left (λ text. r.rest ≡ Some [])
+      → IfSome r.left (IsWithin Certificate)
       → IfSome r.left (λ text. WritesCheckedAnswer text output) → Took w end output → Ends words r w end
   check_ends output w end read within writes (inl all) =
       done all.0 (came output within writes) (record {

@@ -5,7 +5,8 @@ use Rattle.derivation_log.specs.Certificates.{Certificate}
 use Rattle.derivation_log.specs.Validity.{Trial}
 use Rattle.answer_text.specs.AnswerText.{answer_text}
 use Rattle.cert_text.proofs.CertificateLaws.{one_fault_line}
-use Rattle.pq_run.specs.declared.refusal.Refusal.TheVariants.{Words, ReadFault, InputTooLong, Text, TooLarge, CertificateLine, CertificatePart, NoMemory}
+use Rattle.pq_run.specs.declared.refusal.Refusal.TheVariants.{Words, ReadFault, InputTooLong, Text, TooLarge, CertificateLine}
+use Rattle.pq_run.specs.declared.refusal.Refusal.TheVariants.{CertificatePart, NoMemory}
 use Rattle.pq_run.specs.CheckedTexts.{IsValidText}
 use Rattle.pq_run.specs.Output.{WritesAnswer, WritesCertificate, WritesCheckedAnswer, ChecksWhatIsCertified}
 use Rattle.pq_run.specs.Cause.{OneCertRefusal}
@@ -41,6 +42,8 @@ module _ (p c : ℕ) (bytes certificate : List ℕ) (x : WritesCertificate p c b
     valid = x.certifies.valid;
     largest = checked-largest x.certificate x.writable x.certifies.valid;
     canonical = x.certifies.canonical;
+    class = x.certifies.class;
+    exact = x.certifies.exact;
     text = y.text ∙ ap answer_text (sym (certifies_what_is_written p c bytes certificate written x y));
   }
 
@@ -58,13 +61,13 @@ one_cert_refusal bytes Words other x y = absurd x
 one_cert_refusal bytes ReadFault other x y = absurd x
 one_cert_refusal bytes (InputTooLong input) other x y = absurd x
 one_cert_refusal bytes (Text fault) other x y = absurd x
-one_cert_refusal bytes (TooLarge part k rank) other x y = absurd x
+one_cert_refusal bytes (TooLarge run k rank) other x y = absurd x
 one_cert_refusal bytes NoMemory other x y = absurd x
 one_cert_refusal bytes (CertificateLine m) Words x y = absurd y
 one_cert_refusal bytes (CertificateLine m) ReadFault x y = absurd y
 one_cert_refusal bytes (CertificateLine m) (InputTooLong input) x y = absurd y
 one_cert_refusal bytes (CertificateLine m) (Text fault) x y = absurd y
-one_cert_refusal bytes (CertificateLine m) (TooLarge part k rank) x y = absurd y
+one_cert_refusal bytes (CertificateLine m) (TooLarge run k rank) x y = absurd y
 one_cert_refusal bytes (CertificateLine m) (CertificateLine n) x y = ap CertificateLine (one_fault_line bytes m n x y)
 one_cert_refusal bytes (CertificateLine m) (CertificatePart run k part) x y = absurd (fault-not_failing bytes m run k part x y)
 one_cert_refusal bytes (CertificateLine m) NoMemory x y = absurd y

@@ -1,8 +1,11 @@
 -- A text has a first fault, or it is that of one certificate, a part of which is the first that fails, or which is valid.
-use Rattle.std.proofs.Common.{◌≡◌, ℕ, List, sym, ap, subst, ◌∙◌}
+use Rattle.std.proofs.Common.{◌≡◌, ◌<◌, ℕ, List, sym, ap, subst, ◌∙◌}
+use Rattle.pq_base.specs.Series.{HasClass}
+use Rattle.pq_base.specs.Answer.{class_of}
 use Rattle.pq_base.specs.Canonical.{IsCanonical}
 use Rattle.pq_base.specs.Largest.{IsLargest}
 use Rattle.pq_base.specs.Prime.{IsOffered}
+use Rattle.cover_quotient.proofs.canonical_answers.ExactClasses.{own-class, canonical_answers_have_no_smaller_class}
 use Rattle.derivation_log.specs.declared.source.Run.{Run}
 use Rattle.derivation_log.specs.declared.part.Part.{Part}
 use Rattle.derivation_log.specs.Certificates.{Certificate}
@@ -24,7 +27,8 @@ fault-not_failing bytes n run k part fault failing =
     faults_are_no_certificates bytes n fault (failing.certificate, failing.writable, failing.text)
 
 -- one text is that of one certificate
-pub one_certificate : (bytes : List ℕ) (c d : Certificate) → IsWritable c → IsWritable d → bytes ≡ certificate_text c → bytes ≡ certificate_text d
+pub one_certificate : (bytes : List ℕ) (c d : Certificate) → IsWritable c → IsWritable d → bytes ≡ certificate_text c
+    → bytes ≡ certificate_text d
     → c ≡ d
 one_certificate bytes c d x y of_c of_d = one_text_one_certificate c d x y (sym of_c ∙ of_d)
 
@@ -35,7 +39,8 @@ failing-not_valid run k part bytes failing valid =
     valid_certificates_have_no_first_part valid.certificate run k part valid.valid
     (subst (λ (c : Certificate). FirstPart full_kind c run k part) same failing.first)
 
-pub one_failing_part : (bytes : List ℕ) (s t : Trial) → HasFailingPart s.run s.class s.part bytes → HasFailingPart t.run t.class t.part bytes
+pub one_failing_part : (bytes : List ℕ) (s t : Trial) → HasFailingPart s.run s.class s.part bytes
+    → HasFailingPart t.run t.class t.part bytes
     → s ≡ t
 one_failing_part bytes s t x y =
     let same : x.certificate ≡ y.certificate = one_certificate bytes x.certificate y.certificate x.writable y.writable x.text y.text in
@@ -57,3 +62,16 @@ checked-largest c is valid = valid_certificates_are_largest c (has_form c is) va
 
 pub checked-canonical : (c : Certificate) → IsWritable c → IsValid full_kind c → IsCanonical c.answer
 checked-canonical c is valid = valid_certificates_are_canonical c (has_form c is) valid
+
+-- which has the class that it shows, and no smaller one
+pub checked-class : (c : Certificate) → IsWritable c → IsValid full_kind c → HasClass c.answer.presentation (class_of c.answer)
+checked-class c is valid =
+    let largest = checked-largest c is valid in
+    let canonical = checked-canonical c is valid in
+    own-class c.answer largest.answer canonical.weights
+
+pub checked-exact : (c : Certificate) → IsWritable c → IsValid full_kind c → (k : ℕ) → k < class_of c.answer
+    → ¬ HasClass c.answer.presentation k
+checked-exact c is valid =
+    let largest = checked-largest c is valid in
+    canonical_answers_have_no_smaller_class c.answer largest.answer (checked-canonical c is valid) largest.consistent

@@ -1,13 +1,17 @@
 -- One list of words spells at most one command, so what kind of command words ask for is one thing.
-use Rattle.std.proofs.Common.{◌≡◌, ◌<◌, ◌≤◌, ◌^◌, ℕ, List, [], get_or, length, ◌+◌, ◌*◌, refl, sym, ap, ◌∙◌, subst, decimal, Some, None, arith}
+use Rattle.std.proofs.Common.{◌≡◌, ◌<◌, ◌≤◌, ◌^◌, ℕ, suc, List, [], get_or, length, drop, ◌+◌, ◌*◌, refl, sym, ap, ◌∙◌, subst, decimal}
+use Rattle.std.proofs.Common.{Some, None, arith}
 use Rattle.std.proofs.lemmas.Fmt.{decimal_injective}
 use Rattle.pq_base.specs.declared.prime.Prime.{Prime}
 use Rattle.pq_base.specs.declared.prime.Prime.TheVariants.{P2, P3, P5, P7}
 use Rattle.pq_base.specs.Prime.{prime_value}
 use Rattle.pq_run.specs.declared.command.Command.{Command}
-use Rattle.pq_run.specs.declared.command.Command.TheVariants.{Quotient, Json, Certify, Check, Sample}
+use Rattle.pq_run.specs.declared.command.Command.TheVariants.{Quotient, Check, Sample}
+use Rattle.pq_run.specs.declared.command.Form.{Form}
+use Rattle.pq_run.specs.declared.command.Form.TheVariants.{Text, Json, Certificate}
 use Rattle.pq_run.specs.declared.input.Input.{Input}
-use Rattle.pq_run.specs.Command.{command_words, CommandWords, AreCommandWords, IsInRange, Asks, AtPrimeAndClass, AtSample}
+use Rattle.pq_run.specs.Command.{verb_of, words_behind, command_words, CommandWords, AreCommandWords, IsInRange, Asks}
+use Rattle.pq_run.specs.Command.{AtPrimeAndClass, AtSample}
 use Rattle.pq_run.specs.Input.{IsAbove}
 use Rattle.pq_run.specs.Kinds.{ReadsInput, IsReading, IsTooLong, IsGiven}
 
@@ -15,7 +19,13 @@ use Rattle.pq_run.specs.Kinds.{ReadsInput, IsReading, IsTooLong, IsGiven}
 abbrev word : ℕ → List (List ℕ) → List ℕ
 word i words = get_or words i []
 
--- how many words there are, and the first letter of the first: enough to tell the kinds of commands apart
+abbrev first_letter : List ℕ → ℕ
+first_letter w = get_or w 0 0
+
+abbrev word_count : List (List ℕ) → ℕ
+word_count words = length words
+
+-- how many words there are, and the first letter of the first: enough to tell `check` and `sample N` apart
 abbrev mark : List (List ℕ) → ℕ
 mark words = 1000 * length words + get_or (word 0 words) 0 0
 
@@ -50,36 +60,39 @@ same_prime_and_class p q c d hc hd primes classes = (
   decimal_injective c d (omega arith) (omega arith) classes,
 )
 
+-- the words of a form tell it
+same_form : (f g : Form) → verb_of f ≡ verb_of g → words_behind f ≡ words_behind g → f ≡ g
+same_form Text Text verb behind = refl
+same_form Text Json verb behind = absurd (let m = ap word_count behind in omega arith)
+same_form Text Certificate verb behind = absurd (let m = ap first_letter verb in omega arith)
+same_form Json Text verb behind = absurd (let m = ap word_count behind in omega arith)
+same_form Json Json verb behind = refl
+same_form Json Certificate verb behind = absurd (let m = ap first_letter verb in omega arith)
+same_form Certificate Text verb behind = absurd (let m = ap first_letter verb in omega arith)
+same_form Certificate Json verb behind = absurd (let m = ap first_letter verb in omega arith)
+same_form Certificate Certificate verb behind = refl
+
+-- a command for a presentation has at least three words
+three-words : (p : Prime) (c : ℕ) (form : Form) (words : List (List ℕ)) → command_words (Quotient p c form) ≡ words → 3 ≤ length words
+three-words p c form words e =
+    let count : suc (suc (suc (length (words_behind form)))) ≡ length words = ap word_count e in
+    omega arith
+
 pub command_words-injective : (c d : Command) → IsInRange c → IsInRange d → command_words c ≡ command_words d → c ≡ d
-command_words-injective (Quotient p c) (Quotient q d) r s e =
+command_words-injective (Quotient p c f) (Quotient q d g) r s e =
     let same = same_prime_and_class p q c d r.1 s.1 (ap (word 1) e) (ap (word 2) e) in
-    ap (λ (x : Prime). Quotient x c) same.0 ∙ ap (λ (x : ℕ). Quotient q x) same.1
-command_words-injective (Quotient p c) (Json q d) r s e = absurd (let m = ap mark e in omega arith)
-command_words-injective (Quotient p c) (Certify q d) r s e = absurd (let m = ap mark e in omega arith)
-command_words-injective (Quotient p c) Check r s e = absurd (let m = ap mark e in omega arith)
-command_words-injective (Quotient p c) (Sample m) r s e = absurd (let m = ap mark e in omega arith)
-command_words-injective (Json p c) (Quotient q d) r s e = absurd (let m = ap mark e in omega arith)
-command_words-injective (Json p c) (Json q d) r s e =
-    let same = same_prime_and_class p q c d r.1 s.1 (ap (word 1) e) (ap (word 2) e) in
-    ap (λ (x : Prime). Json x c) same.0 ∙ ap (λ (x : ℕ). Json q x) same.1
-command_words-injective (Json p c) (Certify q d) r s e = absurd (let m = ap mark e in omega arith)
-command_words-injective (Json p c) Check r s e = absurd (let m = ap mark e in omega arith)
-command_words-injective (Json p c) (Sample m) r s e = absurd (let m = ap mark e in omega arith)
-command_words-injective (Certify p c) (Quotient q d) r s e = absurd (let m = ap mark e in omega arith)
-command_words-injective (Certify p c) (Json q d) r s e = absurd (let m = ap mark e in omega arith)
-command_words-injective (Certify p c) (Certify q d) r s e =
-    let same = same_prime_and_class p q c d r.1 s.1 (ap (word 1) e) (ap (word 2) e) in
-    ap (λ (x : Prime). Certify x c) same.0 ∙ ap (λ (x : ℕ). Certify q x) same.1
-command_words-injective (Certify p c) Check r s e = absurd (let m = ap mark e in omega arith)
-command_words-injective (Certify p c) (Sample m) r s e = absurd (let m = ap mark e in omega arith)
-command_words-injective Check (Quotient q d) r s e = absurd (let m = ap mark e in omega arith)
-command_words-injective Check (Json q d) r s e = absurd (let m = ap mark e in omega arith)
-command_words-injective Check (Certify q d) r s e = absurd (let m = ap mark e in omega arith)
+    let form : f ≡ g = same_form f g (ap (word 0) e) (ap (λ (ws : List (List ℕ)). drop 3 ws) e) in
+    ap (λ (x : Prime). Quotient x c f) same.0 ∙ ap (λ (x : ℕ). Quotient q x f) same.1 ∙ ap (λ (x : Form). Quotient q d x) form
+command_words-injective (Quotient p c f) Check r s e =
+    absurd (let m : 3 ≤ 1 = three-words p c f (command_words Check) e in omega arith)
+command_words-injective (Quotient p c f) (Sample m) r s e =
+    absurd (let m : 3 ≤ 2 = three-words p c f (command_words (Sample m)) e in omega arith)
+command_words-injective Check (Quotient q d g) r s e =
+    absurd (let m : 3 ≤ 1 = three-words q d g (command_words Check) (sym e) in omega arith)
 command_words-injective Check Check r s e = refl
 command_words-injective Check (Sample m) r s e = absurd (let m = ap mark e in omega arith)
-command_words-injective (Sample n) (Quotient q d) r s e = absurd (let m = ap mark e in omega arith)
-command_words-injective (Sample n) (Json q d) r s e = absurd (let m = ap mark e in omega arith)
-command_words-injective (Sample n) (Certify q d) r s e = absurd (let m = ap mark e in omega arith)
+command_words-injective (Sample n) (Quotient q d g) r s e =
+    absurd (let m : 3 ≤ 2 = three-words q d g (command_words (Sample n)) (sym e) in omega arith)
 command_words-injective (Sample n) Check r s e = absurd (let m = ap mark e in omega arith)
 command_words-injective (Sample n) (Sample m) r s e = ap Sample (decimal_injective n m (omega arith) (omega arith) (ap (word 1) e))
 
@@ -105,43 +118,35 @@ pub Asks-apart : (K M : Command → Type 0) (words : List (List ℕ)) → ((c : 
 Asks-apart K M words apart a b = apart b.0 (subst K (one_command words a.0 b.0 a.1 b.1) a.2) b.2
 
 -- what follows from what holds of the prime and the class of a command
-pub AtPrimeAndClass-gives : (P : ℕ → ℕ → Type 0) (X : Type 0) → ((p c : ℕ) → P p c → X) → (command : Command) → AtPrimeAndClass P command → X
-AtPrimeAndClass-gives P X gives (Quotient p c) holds = gives (prime_value p) c holds
-AtPrimeAndClass-gives P X gives (Json p c) holds = gives (prime_value p) c holds
-AtPrimeAndClass-gives P X gives (Certify p c) holds = gives (prime_value p) c holds
+pub AtPrimeAndClass-gives : (P : ℕ → ℕ → Type 0) (X : Type 0) → ((p c : ℕ) → P p c → X) → (command : Command)
+    → AtPrimeAndClass P command → X
+AtPrimeAndClass-gives P X gives (Quotient p c form) holds = gives (prime_value p) c holds
 AtPrimeAndClass-gives P X gives Check holds = absurd holds
 AtPrimeAndClass-gives P X gives (Sample n) holds = absurd holds
 
 -- so from two facts of them
 pub AtPrimeAndClass-both : (P Q : ℕ → ℕ → Type 0) (X : Type 0) → ((p : Prime) (c : ℕ) → P (prime_value p) c → Q (prime_value p) c → X)
     → (command : Command) → AtPrimeAndClass P command → AtPrimeAndClass Q command → X
-AtPrimeAndClass-both P Q X gives (Quotient p c) one other = gives p c one other
-AtPrimeAndClass-both P Q X gives (Json p c) one other = gives p c one other
-AtPrimeAndClass-both P Q X gives (Certify p c) one other = gives p c one other
+AtPrimeAndClass-both P Q X gives (Quotient p c form) one other = gives p c one other
 AtPrimeAndClass-both P Q X gives Check one other = absurd one
 AtPrimeAndClass-both P Q X gives (Sample n) one other = absurd one
 
 -- what follows from two facts of the number of a sample
-pub AtSample-both : (P Q : ℕ → Type 0) (X : Type 0) → ((n : ℕ) → P n → Q n → X) → (command : Command) → AtSample P command → AtSample Q command → X
-AtSample-both P Q X gives (Quotient p c) one other = absurd one
-AtSample-both P Q X gives (Json p c) one other = absurd one
-AtSample-both P Q X gives (Certify p c) one other = absurd one
+pub AtSample-both : (P Q : ℕ → Type 0) (X : Type 0) → ((n : ℕ) → P n → Q n → X) → (command : Command) → AtSample P command
+    → AtSample Q command → X
+AtSample-both P Q X gives (Quotient p c form) one other = absurd one
 AtSample-both P Q X gives Check one other = absurd one
 AtSample-both P Q X gives (Sample n) one other = gives n one other
 
 -- what follows of it from one
 pub AtSample-weaker : (P Q : ℕ → Type 0) → ((n : ℕ) → P n → Q n) → (command : Command) → AtSample P command → AtSample Q command
-AtSample-weaker P Q gives (Quotient p c) holds = holds
-AtSample-weaker P Q gives (Json p c) holds = holds
-AtSample-weaker P Q gives (Certify p c) holds = holds
+AtSample-weaker P Q gives (Quotient p c form) holds = holds
 AtSample-weaker P Q gives Check holds = holds
 AtSample-weaker P Q gives (Sample n) holds = gives n holds
 
 -- a command for a sample reads nothing
 pub reading-not_sample : (P : ℕ → Type 0) (command : Command) → IsReading command → AtSample P command → ⊥
-reading-not_sample P (Quotient p c) reads holds = holds
-reading-not_sample P (Json p c) reads holds = holds
-reading-not_sample P (Certify p c) reads holds = holds
+reading-not_sample P (Quotient p c form) reads holds = holds
 reading-not_sample P Check reads holds = holds
 reading-not_sample P (Sample n) reads holds = none reads.0 reads.1
   where

@@ -8,6 +8,7 @@ use Rattle.answer_text.specs.AnswerText.{answer_text}
 use Rattle.answer_text.proofs.OneText.{one_text_one_answer}
 use Rattle.pq_run.specs.declared.command.Command.{Command}
 use Rattle.pq_run.specs.declared.command.Command.TheVariants.{Quotient}
+use Rattle.pq_run.specs.declared.command.Form.TheVariants.{Text}
 use Rattle.pq_run.specs.Command.{CommandWords}
 use Rattle.pq_run.specs.Input.{input_of, read_of, IsReadToEnd}
 use Rattle.pq_run.specs.Output.{WritesAnswer, OutputOf}
@@ -43,9 +44,9 @@ answered p c bytes output rest had has all writes gains = record {
 }
 
 module _ (words : List (List ℕ)) (r : Reading) (w : Writing) (done : IsDone words r w) (p : Prime) (c : ℕ)
-    (spelled : CommandWords words (Quotient p c)) where
-  same : done.command ≡ Quotient p c
-  same = one_command words done.command (Quotient p c) done.spelled spelled
+    (spelled : CommandWords words (Quotient p c Text)) where
+  same : done.command ≡ Quotient p c Text
+  same = one_command words done.command (Quotient p c Text) done.spelled spelled
 
   read_to_end : IfSome r.left (λ bytes. r.rest ≡ Some [])
   read_to_end = subst (λ (command : Command). IsReadToEnd (input_of command) r.left r.rest) same done.read
@@ -59,12 +60,13 @@ module _ (words : List (List ℕ)) (r : Reading) (w : Writing) (done : IsDone wo
       → HasAnswered (prime_value p) c bytes r.rest w.taken w.then
   has_answered bytes all wrote =
       let asked = wrote.1 in
-      let here : asked.0 ≡ Quotient p c = one_command words asked.0 (Quotient p c) asked.1 spelled in
+      let here : asked.0 ≡ Quotient p c Text = one_command words asked.0 (Quotient p c Text) asked.1 spelled in
       answered (prime_value p) c bytes wrote.0 r.rest w.taken w.then all
       (subst (λ (command : Command). OutputOf command bytes wrote.0) here asked.2) wrote.2
 
   of_told : (left : Option (List ℕ)) → IfSome left (λ bytes. r.rest ≡ Some [])
-      → IfSome left (λ bytes. HasWritten words bytes (Gains w.taken w.then)) → IfSome left (λ bytes. HasAnswered (prime_value p) c bytes r.rest w.taken w.then)
+      → IfSome left (λ bytes. HasWritten words bytes (Gains w.taken w.then))
+      → IfSome left (λ bytes. HasAnswered (prime_value p) c bytes r.rest w.taken w.then)
   of_told None all wrote = tt
   of_told (Some bytes) all wrote = has_answered bytes all wrote
 

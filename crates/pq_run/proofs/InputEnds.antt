@@ -10,20 +10,23 @@ use Rattle.pq_run.specs.declared.command.Command.{Command}
 use Rattle.pq_run.specs.declared.input.Input.{Input}
 use Rattle.pq_run.specs.declared.input.Input.TheVariants.{Presentation, Certificate}
 use Rattle.pq_run.specs.declared.refusal.Refusal.{Refusal}
-use Rattle.pq_run.specs.declared.refusal.Refusal.TheVariants.{Words, ReadFault, InputTooLong, Text, TooLarge, CertificateLine, CertificatePart, NoMemory}
+use Rattle.pq_run.specs.declared.refusal.Refusal.TheVariants.{Words, ReadFault, InputTooLong, Text, TooLarge, CertificateLine}
+use Rattle.pq_run.specs.declared.refusal.Refusal.TheVariants.{CertificatePart, NoMemory}
 use Rattle.pq_run.specs.Command.{Asks}
 use Rattle.pq_run.specs.Input.{IsAbove, IsWithin}
 use Rattle.pq_run.specs.Texts.{IsReadable, HasLargeRank, HasSmallRanks, HasFault}
 use Rattle.pq_run.specs.SampleRanks.{HasLargeSampleRank}
 use Rattle.pq_run.specs.CheckedTexts.{IsValidText, HasFailingPart}
-use Rattle.pq_run.specs.Kinds.{ReadsInput, IsReading, IsTooLong, IsGiven, IsBadText, IsCertRefused, IsTooLargeFor, IsTooLarge, IsSmall, IsChecked, IsAnswered, IsLargeSampleFor}
+use Rattle.pq_run.specs.Kinds.{ReadsInput, IsReading, IsTooLong, IsGiven, IsBadText, IsCertRefused, IsTooLargeFor, IsTooLarge, IsSmall}
+use Rattle.pq_run.specs.Kinds.{IsChecked, IsAnswered, IsLargeSampleFor}
 use Rattle.pq_run.specs.Refusals.{refusal_status}
 use Rattle.pq_run.specs.Streams.{Reading, Writing}
 use Rattle.cert_text.specs.CertificateFaults.{IsFaultLine}
 use Rattle.pq_run.specs.Cause.{IsCause}
 use Rattle.pq_run.specs.Ends.{Ends, IsDecided}
 use Rattle.pq_run.specs.Ends.Ends.{done, cut, refused}
-use Rattle.pq_run.proofs.Commands.{Asks-words, Asks-weaker, Asks-apart, AtPrimeAndClass-gives, AtPrimeAndClass-both, one_input, reading-not_sample, too_long-not_given}
+use Rattle.pq_run.proofs.Commands.{Asks-words, Asks-weaker, Asks-apart, AtPrimeAndClass-gives, AtPrimeAndClass-both, one_input}
+use Rattle.pq_run.proofs.Commands.{reading-not_sample, too_long-not_given}
 use Rattle.pq_run.proofs.CheckedTexts.{fault-not_valid, failing-not_valid}
 use Rattle.pq_run.proofs.Texts.{HasFault-unreadable, HasLargeRank-HasSmallRanks}
 
@@ -37,7 +40,8 @@ given_apart bytes c x y = differ (one_input Presentation Certificate c x.0 y.0)
 -- what an input is given for
 module _ (bytes : List ℕ) where
   small-readable : (c : Command) → IsSmall bytes c → IsReadable bytes
-  small-readable c is = AtPrimeAndClass-gives (λ p d. HasSmallRanks p d bytes) (IsReadable bytes) (λ p d h. (h.presentation, h.reads)) c is.1
+  small-readable c is = AtPrimeAndClass-gives (λ p d. HasSmallRanks p d bytes) (IsReadable bytes)
+      (λ p d h. (h.presentation, h.reads)) c is.1
 
   large-readable : (c : Command) → IsTooLarge bytes c → IsReadable bytes
   large-readable c is =
@@ -84,7 +88,8 @@ module _ (words : List (List ℕ)) (bytes : List ℕ) (r : Reading) (w : Writing
   here : (P : List ℕ → Type 0) → IfSome r.left P → P bytes
   here P holds = subst (λ (left : Option (List ℕ)). IfSome left P) is_left holds
 
-  refused_end : (refusal : Refusal) → Asks IsReading words → IsCause words r refusal → end ≡ refusal_status refusal → InputEnd words bytes r w end
+  refused_end : (refusal : Refusal) → Asks IsReading words → IsCause words r refusal → end ≡ refusal_status refusal
+      → InputEnd words bytes r w end
   refused_end Words ask cause is = absurd (cause (Asks-words IsReading words ask))
   refused_end ReadFault ask cause is = unread is cause.1
   refused_end (InputTooLong input) ask cause is = long is (cause.0.0, cause.0.1, (input, cause.0.2, here (IsAbove input) cause.1))
@@ -95,7 +100,8 @@ module _ (words : List (List ℕ)) (bytes : List ℕ) (r : Reading) (w : Writing
       let has = here (λ b. Asks (IsTooLargeFor run k rank b) words) of_input.1 in
       large is (has.0, has.1, (run, k, rank, has.2))
   refused_end (TooLarge run k rank) ask (inr of_sample) is =
-      absurd (Asks-apart IsReading (IsLargeSampleFor run k rank) words (λ c reads l. reading-not_sample (HasLargeSampleRank k rank) c reads l.1) ask of_sample)
+      absurd (Asks-apart IsReading (IsLargeSampleFor run k rank) words
+      (λ c reads l. reading-not_sample (HasLargeSampleRank k rank) c reads l.1) ask of_sample)
   refused_end (CertificateLine n) ask cause is =
       let has = here (λ b. IsWithin Certificate b × IsFaultLine b n) cause.1 in
       invalid is (cause.0.0, cause.0.1, ((cause.0.2, has.0), fault-not_valid bytes n has.1))
@@ -207,14 +213,18 @@ module _ (words : List (List ℕ)) (r : Reading) (w : Writing) (end : Status) (e
 
   pub too_large-ends : IfSome r.left (λ bytes. Asks (IsTooLarge bytes) words → IsDecided status.TooLarge end)
   too_large-ends = told r.left (λ bytes. Asks (IsTooLarge bytes) words → IsDecided status.TooLarge end)
-      (λ bytes is_left h. large_end words bytes r w end is_left (by_input (IsTooLarge bytes) (λ c k. (Presentation, k.3.0.0)) bytes is_left h) h)
+      (λ bytes is_left h. large_end words bytes r w end is_left
+      (by_input (IsTooLarge bytes) (λ c k. (Presentation, k.3.0.0)) bytes is_left h) h)
 
   pub cert_refused-ends : IfSome r.left (λ bytes. Asks (IsCertRefused bytes) words → IsDecided status.CertRefused end)
   cert_refused-ends = told r.left (λ bytes. Asks (IsCertRefused bytes) words → IsDecided status.CertRefused end)
-      (λ bytes is_left h. cert_end words bytes r w end is_left (by_input (IsCertRefused bytes) (λ c k. (Certificate, k.0.0)) bytes is_left h) h)
+      (λ bytes is_left h. cert_end words bytes r w end is_left
+      (by_input (IsCertRefused bytes) (λ c k. (Certificate, k.0.0)) bytes is_left h) h)
 
   pub complete-ends : IfSome r.left
-      (λ bytes. Asks (IsAnswered bytes) words → ¬ Rose r.before r.after → ¬ Rose w.before w.after → (end ≡ status.Done) ⊎ (end ≡ status.NoMemory))
+      (λ bytes. Asks (IsAnswered bytes) words → ¬ Rose r.before r.after → ¬ Rose w.before w.after → (end ≡ status.Done)
+      ⊎ (end ≡ status.NoMemory))
   complete-ends = told r.left
-      (λ bytes. Asks (IsAnswered bytes) words → ¬ Rose r.before r.after → ¬ Rose w.before w.after → (end ≡ status.Done) ⊎ (end ≡ status.NoMemory))
+      (λ bytes. Asks (IsAnswered bytes) words → ¬ Rose r.before r.after → ¬ Rose w.before w.after → (end ≡ status.Done)
+      ⊎ (end ≡ status.NoMemory))
       (λ bytes is_left h. answered_end words bytes r w end is_left (by_input (IsAnswered bytes) (answered-reading bytes) bytes is_left h) h)

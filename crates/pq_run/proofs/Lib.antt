@@ -1,6 +1,5 @@
 pub mod Numbers
 pub mod Commands
-pub mod QuotientCommands
 pub mod Texts
 pub mod CheckedTexts
 pub mod Outputs

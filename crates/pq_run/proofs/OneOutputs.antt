@@ -17,9 +17,11 @@ use Rattle.samples.specs.Samples.{sample_presentation, sample_prime, sample_clas
 use Rattle.samples.specs.Summary.{summary_text}
 use Rattle.unique_answers.proofs.UniqueAnswers.{canonical_largest_quotients_are_unique}
 use Rattle.pq_run.specs.declared.command.Command.{Command}
-use Rattle.pq_run.specs.declared.command.Command.TheVariants.{Quotient, Json, Certify, Check, Sample}
+use Rattle.pq_run.specs.declared.command.Command.TheVariants.{Quotient, Check, Sample}
+use Rattle.pq_run.specs.declared.command.Form.TheVariants as forms
 use Rattle.pq_run.specs.Input.{input_of, read_of}
-use Rattle.pq_run.specs.Output.{WritesAnswer, WritesCheckedAnswer, WritesSummary, OutputOf, Output, HasOneOutput, OneOutput, OneOutputOneCertificate, OneCertifiedAnswer, CertifiesWhatIsWritten}
+use Rattle.pq_run.specs.Output.{WritesAnswer, WritesCheckedAnswer, WritesSummary, OutputOf, Output, HasOneOutput, OneOutput}
+use Rattle.pq_run.specs.Output.{OneOutputOneCertificate, OneCertifiedAnswer, CertifiesWhatIsWritten}
 use Rattle.pq_run.specs.Streams.{Reading, Writing}
 use Rattle.pq_run.specs.Ends.{HasWritten, IsDone, IsOnlyOutput}
 use Rattle.pq_run.proofs.Commands.{one_command}
@@ -57,9 +59,9 @@ one_checked_answer bytes output other x y =
 
 one_output_of : (command : Command) (bytes output other : List ℕ) → HasOneOutput command → OutputOf command bytes output
     → OutputOf command bytes other → output ≡ other
-one_output_of (Quotient p c) bytes output other one x y = one_answer (prime_value p) c answer_text bytes output other x y
-one_output_of (Json p c) bytes output other one x y = one_answer (prime_value p) c answer_json bytes output other x y
-one_output_of (Certify p c) bytes output other one x y = absurd one
+one_output_of (Quotient p c forms.Text) bytes output other one x y = one_answer (prime_value p) c answer_text bytes output other x y
+one_output_of (Quotient p c forms.Json) bytes output other one x y = one_answer (prime_value p) c answer_json bytes output other x y
+one_output_of (Quotient p c forms.Certificate) bytes output other one x y = absurd one
 one_output_of Check bytes output other one x y = one_checked_answer bytes output other x y
 one_output_of (Sample n) bytes output other one x y = one_summary n output other x y
 
@@ -88,7 +90,8 @@ pub only_output : (words : List (List ℕ)) (r : Reading) (w : Writing) → IsDo
 only_output words r w done command spelled one =
     let same : done.command ≡ command = one_command words done.command command done.spelled spelled in
     let wrote : IfSome (read_of (input_of command) r.left) (λ bytes. HasWritten words bytes (Gains w.taken w.then)) =
-    subst (λ (c : Command). IfSome (read_of (input_of c) r.left) (λ bytes. HasWritten words bytes (Gains w.taken w.then))) same done.written in
+    subst (λ (c : Command). IfSome (read_of (input_of c) r.left) (λ bytes. HasWritten words bytes (Gains w.taken w.then))) same
+    done.written in
     IfSome_then (read_of (input_of command) r.left) {P = λ bytes. HasWritten words bytes (Gains w.taken w.then)}
     {Q = λ bytes. (o : List ℕ) → Output words bytes o → Gains w.taken w.then o} wrote
     (λ bytes has o is. subst (Gains w.taken w.then) (one_output words bytes has.0 o (command, spelled, one) has.1 is) has.2)

@@ -16,7 +16,8 @@ AreNames-All [] are = tt
 AreNames-All (n ∷ ns) are = (All-head IsName n ns are, AreNames-All ns (All-tail IsName n ns are))
 
 -- an answer whose presentation is one of the program's, and whose names are those of a presentation, is within the limits of texts
-pub writable : (A : Answer) (T : TailedPresentation) (L : LPresentation) → T.presentation ≡ A.presentation → IsTailedPresentation T → IsAnswer A
+pub writable : (A : Answer) (T : TailedPresentation) (L : LPresentation) → T.presentation ≡ A.presentation
+    → IsTailedPresentation T → IsAnswer A
     → A.names ≡ L.names → All IsName L.names → IsWritable A
 writable A T L same is answer names are = record {
   prime = subst (λ (P : Presentation). IsOffered P.prime) same is.prime;

@@ -8,7 +8,8 @@ use Rattle.pq_run.specs.declared.command.Command.{Command}
 use Rattle.pq_run.specs.declared.input.Input.{Input}
 use Rattle.pq_run.specs.declared.input.Input.TheVariants.{Presentation, Certificate}
 use Rattle.pq_run.specs.declared.refusal.Refusal.{Refusal}
-use Rattle.pq_run.specs.declared.refusal.Refusal.TheVariants.{Words, ReadFault, InputTooLong, Text, TooLarge, CertificateLine, CertificatePart, NoMemory}
+use Rattle.pq_run.specs.declared.refusal.Refusal.TheVariants.{Words, ReadFault, InputTooLong, Text, TooLarge, CertificateLine}
+use Rattle.pq_run.specs.declared.refusal.Refusal.TheVariants.{CertificatePart, NoMemory}
 use Rattle.pq_run.specs.Command.{Asks}
 use Rattle.pq_run.specs.SampleRanks.{HasLargeSampleRank, HasSmallSampleRanks}
 use Rattle.pq_run.specs.Kinds.{ReadsInput, IsReading, IsSample, IsLargeSample, IsSmallSample}
@@ -21,7 +22,8 @@ use Rattle.pq_run.proofs.Commands.{Asks-words, Asks-weaker, Asks-apart, AtSample
 
 large-small : (c : Command) → IsLargeSample c → IsSmallSample c → ⊥
 large-small c large small =
-    AtSample-both (HasLargeSampleRank large.1 large.2) HasSmallSampleRanks ⊥ (λ n l s. s large.1 large.2 l.last l.large l.order) c large.3.1 small
+    AtSample-both (HasLargeSampleRank large.1 large.2) HasSmallSampleRanks ⊥ (λ n l s. s large.1 large.2 l.last l.large l.order) c
+    large.3.1 small
 
 large-sample : (c : Command) → IsLargeSample c → IsSample c
 large-sample c large = AtSample-weaker (HasLargeSampleRank large.1 large.2) (λ n. Unit {0}) (λ n l. tt) c large.3.1
@@ -77,5 +79,6 @@ module _ (words : List (List ℕ)) (r : Reading) (w : Writing) (end : Status) wh
   pub sample_too_large-ends : Ends words r w end → Asks IsLargeSample words → (end ≡ status.TooLarge) ⊎ (end ≡ status.NoMemory)
   sample_too_large-ends ends h = large_end (sample_end ends (Asks-weaker IsLargeSample IsSample words large-sample h)) h
 
-  pub sample_complete-ends : Ends words r w end → Asks IsSmallSample words → ¬ Rose w.before w.after → (end ≡ status.Done) ⊎ (end ≡ status.NoMemory)
+  pub sample_complete-ends : Ends words r w end → Asks IsSmallSample words → ¬ Rose w.before w.after → (end ≡ status.Done)
+      ⊎ (end ≡ status.NoMemory)
   sample_complete-ends ends h firm = small_end (sample_end ends (Asks-weaker IsSmallSample IsSample words small-sample h)) h firm

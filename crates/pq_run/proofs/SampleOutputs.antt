@@ -14,7 +14,8 @@ use Rattle.samples.specs.Summary.{summary_text}
 use Rattle.samples.proofs.Samples.{samples_have_one_part}
 use Rattle.pq_run.specs.declared.command.Command.TheVariants.{Sample}
 use Rattle.pq_run.specs.declared.refusal.Refusal.{Refusal}
-use Rattle.pq_run.specs.declared.refusal.Refusal.TheVariants.{Words, ReadFault, InputTooLong, Text, TooLarge, CertificateLine, CertificatePart, NoMemory}
+use Rattle.pq_run.specs.declared.refusal.Refusal.TheVariants.{Words, ReadFault, InputTooLong, Text, TooLarge, CertificateLine}
+use Rattle.pq_run.specs.declared.refusal.Refusal.TheVariants.{CertificatePart, NoMemory}
 use Rattle.pq_run.specs.Command.{CommandWords}
 use Rattle.pq_run.specs.SampleRanks.{HasSmallSampleRanks}
 use Rattle.pq_run.specs.Kinds.{IsReading, IsSample}
@@ -43,7 +44,8 @@ module _ (n : ℕ) (L : LPresentation) (p : ℕ) (same : L ≡ sample_presentati
   pub small_sample_ranks : (A : Answer) → IsQuotient L p sample_class A → HasSmallSampleRanks n
   small_sample_ranks A quotient = let here = of_sample (λ M q. IsQuotient M q sample_class A) quotient in here.small
 
-  pub writes_summary : (A : Answer) (written : List ℕ) → IsQuotient L p sample_class A → written ≡ summary_text n A → WritesSummary n written
+  pub writes_summary : (A : Answer) (written : List ℕ) → IsQuotient L p sample_class A → written ≡ summary_text n A
+      → WritesSummary n written
   writes_summary A written quotient told =
       let here = of_sample (λ M q. IsQuotient M q sample_class A) quotient in
       record { answer = A; largest = here.largest; canonical = here.canonical; text = told }
@@ -57,7 +59,7 @@ module _ (words : List (List ℕ)) (n : ℕ) (spelled : CommandWords words (Samp
   sample_cause ReadFault cause = absurd cause
   sample_cause (InputTooLong input) cause = absurd cause
   sample_cause (Text fault) cause = absurd cause
-  sample_cause (TooLarge part k rank) cause = inr (Sample n, spelled, cause)
+  sample_cause (TooLarge run k rank) cause = inr (Sample n, spelled, cause)
   sample_cause (CertificateLine m) cause = absurd cause
   sample_cause (CertificatePart run k part) cause = absurd cause
   sample_cause NoMemory cause = (Sample n, spelled)

@@ -4,7 +4,8 @@ use Rattle.pq_base.specs.declared.status.Status.{Status}
 use Rattle.pq_base.specs.declared.status.Status.TheVariants as status
 use Rattle.pq_run.specs.declared.input.Input.TheVariants.{Presentation, Certificate}
 use Rattle.pq_run.specs.declared.refusal.Refusal.{Refusal}
-use Rattle.pq_run.specs.declared.refusal.Refusal.TheVariants.{Words, ReadFault, InputTooLong, Text, TooLarge, CertificateLine, CertificatePart, NoMemory}
+use Rattle.pq_run.specs.declared.refusal.Refusal.TheVariants.{Words, ReadFault, InputTooLong, Text, TooLarge, CertificateLine}
+use Rattle.pq_run.specs.declared.refusal.Refusal.TheVariants.{CertificatePart, NoMemory}
 use Rattle.pq_run.specs.Command.{AreCommandWords}
 use Rattle.pq_run.specs.Refusals.{refusal_status}
 use Rattle.pq_run.specs.Kinds.{ReadsInput, IsReading, IsLargeSampleFor}
@@ -24,8 +25,8 @@ kind_of_cause words r Words cause = no_command refl cause
 kind_of_cause words r ReadFault cause = command (λ e. cc) (Asks-words IsReading words cause.0)
 kind_of_cause words r (InputTooLong input) cause = command (λ e. cc) (Asks-words (ReadsInput input) words cause.0)
 kind_of_cause words r (Text fault) cause = command (λ e. cc) (Asks-words (ReadsInput Presentation) words cause.0)
-kind_of_cause words r (TooLarge part k rank) (inl of_input) = command (λ e. cc) (Asks-words (ReadsInput Presentation) words of_input.0)
-kind_of_cause words r (TooLarge part k rank) (inr of_sample) = command (λ e. cc) (Asks-words (IsLargeSampleFor part k rank) words of_sample)
+kind_of_cause words r (TooLarge run k rank) (inl of_input) = command (λ e. cc) (Asks-words (ReadsInput Presentation) words of_input.0)
+kind_of_cause words r (TooLarge run k rank) (inr of_sample) = command (λ e. cc) (Asks-words (IsLargeSampleFor run k rank) words of_sample)
 kind_of_cause words r (CertificateLine n) cause = command (λ e. cc) (Asks-words (ReadsInput Certificate) words cause.0)
 kind_of_cause words r (CertificatePart run k part) cause = command (λ e. cc) (Asks-words (ReadsInput Certificate) words cause.0)
 kind_of_cause words r NoMemory cause = command (λ e. cc) cause
@@ -36,11 +37,13 @@ done_or_bad e = cc
 cut_or_bad : status.WriteFault ≡ status.BadWords → ⊥
 cut_or_bad e = cc
 
-bad_words-refused : (words : List (List ℕ)) (refusal : Refusal) → Kind words refusal → (refusal_status refusal ≡ status.BadWords) ↔ (¬ AreCommandWords words)
+bad_words-refused : (words : List (List ℕ)) (refusal : Refusal) → Kind words refusal
+    → (refusal_status refusal ≡ status.BadWords) ↔ (¬ AreCommandWords words)
 bad_words-refused words refusal (no_command is bad) = ((λ e. bad), (λ _. is))
 bad_words-refused words refusal (command other good) = ((λ e. absurd (other e)), (λ bad. absurd (bad good)))
 
-pub bad_words-ends : (words : List (List ℕ)) (r : Reading) (w : Writing) (end : Status) → Ends words r w end → (end ≡ status.BadWords) ↔ (¬ AreCommandWords words)
+pub bad_words-ends : (words : List (List ℕ)) (r : Reading) (w : Writing) (end : Status) → Ends words r w end
+    → (end ≡ status.BadWords) ↔ (¬ AreCommandWords words)
 bad_words-ends words r w end (done is came by) = ((λ e. absurd (done_or_bad (sym is ∙ e))), (λ bad. absurd (bad came.command)))
 bad_words-ends words r w end (cut is came by) = ((λ e. absurd (cut_or_bad (sym is ∙ e))), (λ bad. absurd (bad came.command)))
 bad_words-ends words r w end (refused by) =

@@ -12,7 +12,8 @@ use Rattle.tower.specs.TwoRuns.{IsTooLargeIn}
 use Rattle.pq_run.specs.declared.input.Input.{Input}
 use Rattle.pq_run.specs.declared.input.Input.TheVariants.{Presentation, Certificate}
 use Rattle.pq_run.specs.declared.refusal.Refusal.{Refusal}
-use Rattle.pq_run.specs.declared.refusal.Refusal.TheVariants.{Words, ReadFault, InputTooLong, Text, TooLarge, CertificateLine, CertificatePart, NoMemory}
+use Rattle.pq_run.specs.declared.refusal.Refusal.TheVariants.{Words, ReadFault, InputTooLong, Text, TooLarge}
+use Rattle.pq_run.specs.declared.refusal.Refusal.TheVariants.{CertificateLine, CertificatePart, NoMemory}
 use Rattle.pq_run.specs.Command.{AreCommandWords, Asks}
 use Rattle.pq_run.specs.Input.{IsAbove, IsWithin}
 use Rattle.pq_run.specs.Texts.{HasFault, HasLargeRank}
@@ -29,38 +30,37 @@ IsReadCause input r NoMemory = Unit {0}
 IsReadCause input r _ = ⊥
 
 -- what it takes for the bytes of a presentation to be refused so, at this prime and class
-abbrev pub IsTextCause : ℕ → ℕ → List ℕ → Refusal → Type 0
-IsTextCause p c bytes (Text fault) = HasFault fault bytes
-IsTextCause p c bytes (TooLarge part k rank) = HasLargeRank p c part k rank bytes
-IsTextCause p c bytes NoMemory = Unit {0}
-IsTextCause p c bytes _ = ⊥
+abbrev pub IsPresentationTextCause : ℕ → ℕ → List ℕ → Refusal → Type 0
+IsPresentationTextCause p c bytes (Text fault) = HasFault fault bytes
+IsPresentationTextCause p c bytes (TooLarge run k rank) = HasLargeRank p c run k rank bytes
+IsPresentationTextCause p c bytes _ = ⊥
 
 -- what it takes for a presentation that was read to be refused so, at this prime and class
 abbrev pub IsPresentationCause : ℕ → ℕ → LPresentation → Refusal → Type 0
-IsPresentationCause p c L (TooLarge part k rank) = IsTooLargeIn L p c part k rank
+IsPresentationCause p c L (TooLarge run k rank) = IsTooLargeIn L p c run k rank
 IsPresentationCause p c L NoMemory = Unit {0}
 IsPresentationCause p c L _ = ⊥
 
 -- the bytes aren't too many, and this is what they are refused for, where the source tells them
-abbrev pub HasTextCause : ℕ → ℕ → Reading → Refusal → Type 0
-HasTextCause p c r refusal = IfSome r.left (λ bytes. IsWithin Presentation bytes × IsTextCause p c bytes refusal)
+abbrev pub HasPresentationTextCause : ℕ → ℕ → Reading → Refusal → Type 0
+HasPresentationTextCause p c r refusal = IfSome r.left (λ bytes. IsWithin Presentation bytes × IsPresentationTextCause p c bytes refusal)
 
 -- what it takes for the input of a presentation to be refused so, at this prime and class
-abbrev pub IsInputCause : ℕ → ℕ → Reading → Refusal → Type 0
-IsInputCause p c r Words = ⊥
-IsInputCause p c r ReadFault = IsReadCause Presentation r ReadFault
-IsInputCause p c r (InputTooLong input) = IsReadCause Presentation r (InputTooLong input)
-IsInputCause p c r (Text fault) = HasTextCause p c r (Text fault)
-IsInputCause p c r (TooLarge part k rank) = HasTextCause p c r (TooLarge part k rank)
-IsInputCause p c r (CertificateLine n) = ⊥
-IsInputCause p c r (CertificatePart run k part) = ⊥
-IsInputCause p c r NoMemory = Unit {0}
+abbrev pub IsQuotientCause : ℕ → ℕ → Reading → Refusal → Type 0
+IsQuotientCause p c r Words = ⊥
+IsQuotientCause p c r ReadFault = IsReadCause Presentation r ReadFault
+IsQuotientCause p c r (InputTooLong input) = IsReadCause Presentation r (InputTooLong input)
+IsQuotientCause p c r (Text fault) = HasPresentationTextCause p c r (Text fault)
+IsQuotientCause p c r (TooLarge run k rank) = HasPresentationTextCause p c r (TooLarge run k rank)
+IsQuotientCause p c r (CertificateLine n) = ⊥
+IsQuotientCause p c r (CertificatePart run k part) = ⊥
+IsQuotientCause p c r NoMemory = Unit {0}
 
 -- what it takes for the bytes of a certificate to be refused so
-abbrev pub IsCheckedTextCause : List ℕ → Refusal → Type 0
-IsCheckedTextCause bytes (CertificateLine n) = IsFaultLine bytes n
-IsCheckedTextCause bytes (CertificatePart run k part) = HasFailingPart run k part bytes
-IsCheckedTextCause bytes _ = ⊥
+abbrev pub IsCertificateTextCause : List ℕ → Refusal → Type 0
+IsCertificateTextCause bytes (CertificateLine n) = IsFaultLine bytes n
+IsCertificateTextCause bytes (CertificatePart run k part) = HasFailingPart run k part bytes
+IsCertificateTextCause bytes _ = ⊥
 
 -- what it takes for a certificate that was read to be refused so
 abbrev pub IsCertificateCause : certificates.Certificate → Refusal → Type 0
@@ -69,8 +69,8 @@ IsCertificateCause c NoMemory = Unit {0}
 IsCertificateCause c _ = ⊥
 
 -- the bytes aren't too many, and this is what they are refused for, where the source tells them
-abbrev pub HasCheckedTextCause : Reading → Refusal → Type 0
-HasCheckedTextCause r refusal = IfSome r.left (λ bytes. IsWithin Certificate bytes × IsCheckedTextCause bytes refusal)
+abbrev pub HasCertificateTextCause : Reading → Refusal → Type 0
+HasCertificateTextCause r refusal = IfSome r.left (λ bytes. IsWithin Certificate bytes × IsCertificateTextCause bytes refusal)
 
 -- what it takes for the input of a certificate to be refused so
 abbrev pub IsCheckCause : Reading → Refusal → Type 0
@@ -78,14 +78,14 @@ IsCheckCause r Words = ⊥
 IsCheckCause r ReadFault = IsReadCause Certificate r ReadFault
 IsCheckCause r (InputTooLong input) = IsReadCause Certificate r (InputTooLong input)
 IsCheckCause r (Text fault) = ⊥
-IsCheckCause r (TooLarge part k rank) = ⊥
-IsCheckCause r (CertificateLine n) = HasCheckedTextCause r (CertificateLine n)
-IsCheckCause r (CertificatePart run k part) = HasCheckedTextCause r (CertificatePart run k part)
+IsCheckCause r (TooLarge run k rank) = ⊥
+IsCheckCause r (CertificateLine n) = HasCertificateTextCause r (CertificateLine n)
+IsCheckCause r (CertificatePart run k part) = HasCertificateTextCause r (CertificatePart run k part)
 IsCheckCause r NoMemory = Unit {0}
 
 -- what it takes for a sample to be refused so
 abbrev pub IsSampleCause : ℕ → Refusal → Type 0
-IsSampleCause n (TooLarge part k rank) = (part ≡ Whole) × HasLargeSampleRank k rank n
+IsSampleCause n (TooLarge run k rank) = (run ≡ Whole) × HasLargeSampleRank k rank n
 IsSampleCause n NoMemory = Unit {0}
 IsSampleCause n _ = ⊥
 
@@ -96,13 +96,14 @@ IsCause words r ReadFault = Asks IsReading words × Rose r.before r.after
 IsCause words r (InputTooLong input) = Asks (ReadsInput input) words × IfSome r.left (IsAbove input)
 IsCause words r (Text fault) =
     Asks (ReadsInput Presentation) words × IfSome r.left (λ bytes. IsWithin Presentation bytes × HasFault fault bytes)
-IsCause words r (TooLarge part k rank) =
-    (Asks (ReadsInput Presentation) words × IfSome r.left (λ bytes. Asks (IsTooLargeFor part k rank bytes) words))
-    ⊎ Asks (IsLargeSampleFor part k rank) words
-IsCause words r (CertificateLine n) = Asks (ReadsInput Certificate) words × HasCheckedTextCause r (CertificateLine n)
-IsCause words r (CertificatePart run k part) = Asks (ReadsInput Certificate) words × HasCheckedTextCause r (CertificatePart run k part)
+IsCause words r (TooLarge run k rank) =
+    (Asks (ReadsInput Presentation) words × IfSome r.left (λ bytes. Asks (IsTooLargeFor run k rank bytes) words))
+    ⊎ Asks (IsLargeSampleFor run k rank) words
+IsCause words r (CertificateLine n) = Asks (ReadsInput Certificate) words × HasCertificateTextCause r (CertificateLine n)
+IsCause words r (CertificatePart run k part) = Asks (ReadsInput Certificate) words × HasCertificateTextCause r (CertificatePart run k part)
 IsCause words r NoMemory = AreCommandWords words
 
 -- the bytes of a certificate's input determine what they are refused for, so also the line
 abbrev pub OneCertRefusal : Type 0
-OneCertRefusal = (bytes : List ℕ) (one other : Refusal) → IsCheckedTextCause bytes one → IsCheckedTextCause bytes other → one ≡ other
+OneCertRefusal = (bytes : List ℕ) (one other : Refusal) → IsCertificateTextCause bytes one → IsCertificateTextCause bytes other
+    → one ≡ other

@@ -1,4 +1,5 @@
 -- What the bytes of a certificate's input may be: no certificate, or one that isn't valid, or a valid one.
+-- From: this project's own commands.
 use Rattle.std.specs.Prelude.{◌≡◌, ℕ, List}
 use Rattle.derivation_log.specs.declared.source.Run.{Run}
 use Rattle.derivation_log.specs.declared.part.Part.{Part}

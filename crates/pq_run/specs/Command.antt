@@ -4,12 +4,24 @@ use Rattle.std.specs.Prelude.{◌≡◌, ◌≤◌, ℕ, List, [], ◌∷◌, co
 use Rattle.pq_base.specs.Limits.{max_class}
 use Rattle.pq_base.specs.Prime.{prime_value}
 use Rattle.pq_run.specs.declared.command.Command.{Command}
-use Rattle.pq_run.specs.declared.command.Command.TheVariants.{Quotient, Json, Certify, Check, Sample}
+use Rattle.pq_run.specs.declared.command.Command.TheVariants.{Quotient, Check, Sample}
+use Rattle.pq_run.specs.declared.command.Form.{Form}
+use Rattle.pq_run.specs.declared.command.Form.TheVariants.{Text, Json, Certificate}
+
+-- the word that asks for an answer, or for a certificate of it
+abbrev pub verb_of : Form → List ℕ
+verb_of Text = codes "quotient"
+verb_of Json = codes "quotient"
+verb_of Certificate = codes "certify"
+
+-- the words behind the class that tell a form
+abbrev pub words_behind : Form → List (List ℕ)
+words_behind Text = []
+words_behind Json = codes "json" ∷ []
+words_behind Certificate = []
 
 abbrev pub command_words : Command → List (List ℕ)
-command_words (Quotient p c) = codes "quotient" ∷ decimal (prime_value p) ∷ decimal c ∷ []
-command_words (Json p c) = codes "quotient" ∷ decimal (prime_value p) ∷ decimal c ∷ codes "json" ∷ []
-command_words (Certify p c) = codes "certify" ∷ decimal (prime_value p) ∷ decimal c ∷ []
+command_words (Quotient p c form) = verb_of form ∷ decimal (prime_value p) ∷ decimal c ∷ words_behind form
 command_words Check = codes "check" ∷ []
 command_words (Sample n) = codes "sample" ∷ decimal n ∷ []
 
@@ -19,9 +31,7 @@ IsClass c = (1 ≤ c) × (c ≤ max_class)
 
 -- the numbers of a command are within their limits
 abbrev pub IsInRange : Command → Type 0
-IsInRange (Quotient p c) = IsClass c
-IsInRange (Json p c) = IsClass c
-IsInRange (Certify p c) = IsClass c
+IsInRange (Quotient p c form) = IsClass c
 IsInRange Check = Unit {0}
 IsInRange (Sample n) = n ≤ 999999
 
@@ -40,16 +50,12 @@ Asks kind words = (command : Command) × CommandWords words command × kind comm
 
 -- a command that has a prime and a class, and this holds of them
 abbrev pub AtPrimeAndClass : (ℕ → ℕ → Type 0) → Command → Type 0
-AtPrimeAndClass P (Quotient p c) = P (prime_value p) c
-AtPrimeAndClass P (Json p c) = P (prime_value p) c
-AtPrimeAndClass P (Certify p c) = P (prime_value p) c
+AtPrimeAndClass P (Quotient p c form) = P (prime_value p) c
 AtPrimeAndClass P Check = ⊥
 AtPrimeAndClass P (Sample n) = ⊥
 
 -- the command for a sample, and this holds of its number
 abbrev pub AtSample : (ℕ → Type 0) → Command → Type 0
-AtSample P (Quotient p c) = ⊥
-AtSample P (Json p c) = ⊥
-AtSample P (Certify p c) = ⊥
+AtSample P (Quotient p c form) = ⊥
 AtSample P Check = ⊥
 AtSample P (Sample n) = P n

@@ -62,7 +62,7 @@ EndsAs refusal w end = (end ≡ refusal_status refusal) × TakesLine w (refusal_
 -- a refusal whose line needs memory
 abbrev pub NeedsMemory : Refusal → Type 0
 NeedsMemory (Text fault) = Unit {0}
-NeedsMemory (TooLarge part k rank) = Unit {0}
+NeedsMemory (TooLarge run k rank) = Unit {0}
 NeedsMemory (CertificateLine n) = Unit {0}
 NeedsMemory (CertificatePart run k part) = Unit {0}
 NeedsMemory _ = ⊥

@@ -21,6 +21,7 @@ use Rattle.lpres_reader.specs.Reads.{Reads}
 use Rattle.answer_text.specs.AnswerText.{answer_text}
 use Rattle.answer_text.specs.OneText.{IsWritable}
 use Rattle.pq_run.specs.declared.command.Command.TheVariants.{Quotient}
+use Rattle.pq_run.specs.declared.command.Form.TheVariants.{Text}
 use Rattle.pq_run.specs.Command.{CommandWords}
 use Rattle.pq_run.specs.Streams.{Reading, Writing}
 
@@ -62,5 +63,5 @@ pub record HasAnswered (p c : ℕ) (bytes : List ℕ) (rest had has : Option (Li
 
 -- where the words are `quotient P C`, and the source told what it had left, it has answered
 abbrev pub Headline : List (List ℕ) → Reading → Writing → Type 0
-Headline words r w = (p : Prime) (c : ℕ) → CommandWords words (Quotient p c)
+Headline words r w = (p : Prime) (c : ℕ) → CommandWords words (Quotient p c Text)
     → IfSome r.left (λ bytes. HasAnswered (prime_value p) c bytes r.rest w.taken w.then)

@@ -1,24 +1,23 @@
 -- What a command reads, how many bytes that may be, and what it leaves in the source.
 -- From: this project's own commands.
 use Rattle.std.specs.Prelude.{◌≡◌, ◌<◌, ◌≤◌, ◌+◌, ℕ, List, [], length, drop, Option, Some, None, IfSome}
+use Rattle.pq_base.specs.Limits.{max_presentation_bytes, max_certificate_bytes}
 use Rattle.pq_run.specs.declared.command.Command.{Command}
-use Rattle.pq_run.specs.declared.command.Command.TheVariants.{Quotient, Json, Certify, Check, Sample}
+use Rattle.pq_run.specs.declared.command.Command.TheVariants.{Quotient, Check, Sample}
 use Rattle.pq_run.specs.declared.input.Input.{Input}
 use Rattle.pq_run.specs.declared.input.Input.TheVariants.{Presentation, Certificate}
 use Rattle.pq_run.specs.Command.{CommandWords}
 
 -- what a command reads, where it reads anything
 abbrev pub input_of : Command → Option Input
-input_of (Quotient p c) = Some Presentation
-input_of (Json p c) = Some Presentation
-input_of (Certify p c) = Some Presentation
+input_of (Quotient p c form) = Some Presentation
 input_of Check = Some Certificate
 input_of (Sample n) = None
 
 -- the most bytes of an input
 abbrev pub byte_limit : Input → ℕ
-byte_limit Presentation = 4194304
-byte_limit Certificate = 268435456
+byte_limit Presentation = max_presentation_bytes
+byte_limit Certificate = max_certificate_bytes
 
 abbrev pub IsAbove : Input → List ℕ → Type 0
 IsAbove input bytes = byte_limit input < length bytes

@@ -36,14 +36,14 @@ IsBadText bytes command = IsGiven Presentation bytes command × ¬ IsReadable by
 abbrev pub IsCertRefused : List ℕ → Command → Type 0
 IsCertRefused bytes command = IsGiven Certificate bytes command × ¬ IsValidText bytes
 
--- a command is given the bytes for a presentation, and they are one in this part of which class k is the first whose largest quotient has a rank above the limit:
--- the rank is r
+-- a command is given the bytes for a presentation, and they are one in this part of which class k is the first whose largest quotient
+-- has a rank above the limit: the rank is r
 abbrev pub IsTooLargeFor : Run → ℕ → ℕ → List ℕ → Command → Type 0
-IsTooLargeFor part k r bytes command = IsGiven Presentation bytes command × AtPrimeAndClass (λ p c. HasLargeRank p c part k r bytes) command
+IsTooLargeFor run k r bytes command = IsGiven Presentation bytes command × AtPrimeAndClass (λ p c. HasLargeRank p c run k r bytes) command
 
 -- so, in some part and at some class
 abbrev pub IsTooLarge : List ℕ → Command → Type 0
-IsTooLarge bytes command = (part : Run) × (k : ℕ) × (r : ℕ) × IsTooLargeFor part k r bytes command
+IsTooLarge bytes command = (run : Run) × (k : ℕ) × (r : ℕ) × IsTooLargeFor run k r bytes command
 
 -- a command is given the bytes for a presentation, and they are one none of whose largest quotients up to the class asked for has a
 -- rank above the limit, nor of its iterated part, where that is computed first
@@ -64,11 +64,11 @@ IsSample command = AtSample (λ n. Unit {0}) command
 
 -- a sample of which class k is the first whose largest quotient has a rank above the limit: the rank is r. It is one of the whole
 abbrev pub IsLargeSampleFor : Run → ℕ → ℕ → Command → Type 0
-IsLargeSampleFor part k r command = (part ≡ Whole) × AtSample (HasLargeSampleRank k r) command
+IsLargeSampleFor run k r command = (run ≡ Whole) × AtSample (HasLargeSampleRank k r) command
 
 -- so, at some class
 abbrev pub IsLargeSample : Command → Type 0
-IsLargeSample command = (part : Run) × (k : ℕ) × (r : ℕ) × IsLargeSampleFor part k r command
+IsLargeSample command = (run : Run) × (k : ℕ) × (r : ℕ) × IsLargeSampleFor run k r command
 
 -- a sample none of whose largest quotients up to its class has a rank above the limit: its summary is written
 abbrev pub IsSmallSample : Command → Type 0
@@ -76,10 +76,10 @@ IsSmallSample command = AtSample HasSmallSampleRanks command
 
 -- the words and the bytes determine the part, the first class whose rank is above the limit, and this rank
 abbrev pub OneTooLarge : Type 0
-OneTooLarge = (words : List (List ℕ)) (bytes : List ℕ) (part other : Run) (j k r s : ℕ) → Asks (IsTooLargeFor part j r bytes) words
-    → Asks (IsTooLargeFor other k s bytes) words → (part ≡ other) × (j ≡ k) × (r ≡ s)
+OneTooLarge = (words : List (List ℕ)) (bytes : List ℕ) (run other : Run) (j k r s : ℕ) → Asks (IsTooLargeFor run j r bytes) words
+    → Asks (IsTooLargeFor other k s bytes) words → (run ≡ other) × (j ≡ k) × (r ≡ s)
 
 -- so do the words alone, where they ask for a sample
 abbrev pub OneLargeSample : Type 0
-OneLargeSample = (words : List (List ℕ)) (part other : Run) (j k r s : ℕ) → Asks (IsLargeSampleFor part j r) words
-    → Asks (IsLargeSampleFor other k s) words → (part ≡ other) × (j ≡ k) × (r ≡ s)
+OneLargeSample = (words : List (List ℕ)) (run other : Run) (j k r s : ℕ) → Asks (IsLargeSampleFor run j r) words
+    → Asks (IsLargeSampleFor other k s) words → (run ≡ other) × (j ≡ k) × (r ≡ s)

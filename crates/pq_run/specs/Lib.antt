@@ -1,7 +1,6 @@
 pub mod Number
 pub mod Command
 pub mod Input
-pub mod Form
 pub mod Output
 pub mod Texts
 pub mod CheckedTexts

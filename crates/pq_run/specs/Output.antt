@@ -20,7 +20,8 @@ use Rattle.cert_text.specs.CertificateText as certificates
 use Rattle.samples.specs.Samples.{sample_presentation, sample_prime, sample_class}
 use Rattle.samples.specs.Summary.{summary_text}
 use Rattle.pq_run.specs.declared.command.Command.{Command}
-use Rattle.pq_run.specs.declared.command.Command.TheVariants.{Quotient, Json, Certify, Check, Sample}
+use Rattle.pq_run.specs.declared.command.Command.TheVariants.{Quotient, Check, Sample}
+use Rattle.pq_run.specs.declared.command.Form.TheVariants as forms
 use Rattle.pq_run.specs.Command.{Asks}
 use Rattle.pq_run.specs.CheckedTexts.{IsValidText}
 
@@ -61,7 +62,8 @@ pub record WritesCertificate (p c : ℕ) (bytes written : List ℕ) : Type 0 whe
   pub text : written ≡ certificates.certificate_text certificate
 
 -- the bytes are the text of one valid certificate, and what is written is its answer, as text. Whoever wrote the certificate, this is the
--- canonical largest quotient of its presentation, for its prime and its class
+-- canonical largest quotient of its presentation, for its prime and its class, and the class that it shows is the least that its
+-- presentation has
 pub record WritesCheckedAnswer (bytes written : List ℕ) : Type 0 where
   pub certificate : Certificate
   pub writable : certificates.IsWritable certificate
@@ -69,6 +71,8 @@ pub record WritesCheckedAnswer (bytes written : List ℕ) : Type 0 where
   pub valid : IsValid full_kind certificate
   pub largest : IsLargest certificate.presentation certificate.prime certificate.class certificate.answer
   pub canonical : IsCanonical certificate.answer
+  pub class : HasClass certificate.answer.presentation (class_of certificate.answer)
+  pub exact : (k : ℕ) → k < class_of certificate.answer → ¬ HasClass certificate.answer.presentation k
   pub text : written ≡ answer_text certificate.answer
 
 -- what is written is the summary of the canonical largest quotient of the sample of this number, for its prime and its class
@@ -79,9 +83,9 @@ pub record WritesSummary (n : ℕ) (written : List ℕ) : Type 0 where
   pub text : written ≡ summary_text n answer
 
 abbrev pub OutputOf : Command → List ℕ → List ℕ → Type 0
-OutputOf (Quotient p c) bytes written = WritesAnswer (prime_value p) c answer_text bytes written
-OutputOf (Json p c) bytes written = WritesAnswer (prime_value p) c answer_json bytes written
-OutputOf (Certify p c) bytes written = WritesCertificate (prime_value p) c bytes written
+OutputOf (Quotient p c forms.Text) bytes written = WritesAnswer (prime_value p) c answer_text bytes written
+OutputOf (Quotient p c forms.Json) bytes written = WritesAnswer (prime_value p) c answer_json bytes written
+OutputOf (Quotient p c forms.Certificate) bytes written = WritesCertificate (prime_value p) c bytes written
 OutputOf Check bytes written = WritesCheckedAnswer bytes written
 OutputOf (Sample n) bytes written = WritesSummary n written
 
@@ -95,9 +99,9 @@ OneOutputOneAnswer = (p c : ℕ) (bytes written : List ℕ) (x y : WritesAnswer 
 
 -- a command whose output is determined: each but that for a certificate
 abbrev pub HasOneOutput : Command → Type 0
-HasOneOutput (Quotient p c) = Unit {0}
-HasOneOutput (Json p c) = Unit {0}
-HasOneOutput (Certify p c) = ⊥
+HasOneOutput (Quotient p c forms.Text) = Unit {0}
+HasOneOutput (Quotient p c forms.Json) = Unit {0}
+HasOneOutput (Quotient p c forms.Certificate) = ⊥
 HasOneOutput Check = Unit {0}
 HasOneOutput (Sample n) = Unit {0}
 
@@ -112,8 +116,8 @@ OneOutputOneCertificate = (p c : ℕ) (bytes written : List ℕ) (x y : WritesCe
 
 -- the bytes, the prime and the class determine the answer of what is written as a certificate, whatever sources it names
 abbrev pub OneCertifiedAnswer : Type 0
-OneCertifiedAnswer = (p c : ℕ) (bytes written other : List ℕ) (x : WritesCertificate p c bytes written) (y : WritesCertificate p c bytes other)
-    → x.certificate.answer ≡ y.certificate.answer
+OneCertifiedAnswer = (p c : ℕ) (bytes written other : List ℕ) (x : WritesCertificate p c bytes written)
+    (y : WritesCertificate p c bytes other) → x.certificate.answer ≡ y.certificate.answer
 
 -- it is the answer that is written by itself
 abbrev pub CertifiesWhatIsWritten : Type 0

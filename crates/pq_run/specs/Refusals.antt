@@ -23,7 +23,8 @@ use Rattle.tower.specs.declared.refusal.TowerRefusal.{TowerRefusal}
 use Rattle.tower.specs.declared.refusal.TowerRefusal.TheVariants as tower
 use Rattle.pq_run.specs.declared.input.Input.{Input}
 use Rattle.pq_run.specs.declared.refusal.Refusal.{Refusal}
-use Rattle.pq_run.specs.declared.refusal.Refusal.TheVariants.{Words, ReadFault, InputTooLong, Text, TooLarge, CertificateLine, CertificatePart, NoMemory}
+use Rattle.pq_run.specs.declared.refusal.Refusal.TheVariants.{Words, ReadFault, InputTooLong, Text, TooLarge}
+use Rattle.pq_run.specs.declared.refusal.Refusal.TheVariants.{CertificateLine, CertificatePart, NoMemory}
 use Rattle.pq_run.specs.Input.{byte_limit}
 
 -- what is limited
@@ -53,16 +54,17 @@ abbrev pub too_long_line : Input → List ℕ
 too_long_line input = codes "refused: input above " ++ (decimal (byte_limit input) ++ (codes " bytes" ++ 10 ∷ []))
 
 -- what a run computes
-abbrev pub part_text : Run → List ℕ
-part_text run.Iterated = codes "iterated part"
-part_text run.Whole = codes "whole"
+abbrev pub computed_text : Run → List ℕ
+computed_text run.Iterated = codes "iterated part"
+computed_text run.Whole = codes "whole"
 
 -- the largest quotient of class k has a rank above the limit
 abbrev pub too_large_line : Run → ℕ → ℕ → List ℕ
-too_large_line part k rank =
+too_large_line run k rank =
     codes "refused: rank "
     ++ (decimal rank
-    ++ (codes " above " ++ (decimal max_rank ++ (codes " at class " ++ (decimal k ++ (codes " of the " ++ (part_text part ++ 10 ∷ [])))))))
+    ++ (codes " above "
+    ++ (decimal max_rank ++ (codes " at class " ++ (decimal k ++ (codes " of the " ++ (computed_text run ++ 10 ∷ [])))))))
 
 -- the bytes are no certificate, and their first fault is at line n
 abbrev pub certificate_line : ℕ → List ℕ
@@ -73,31 +75,31 @@ run_text run.Iterated = codes "iterated"
 run_text run.Whole = codes "whole"
 
 -- a part that is judged
-abbrev pub judged_text : Part → List ℕ
-judged_text part.Extra = codes "extra"
-judged_text part.Row = codes "row"
-judged_text part.Sum = codes "sum"
-judged_text part.Rank = codes "rank"
-judged_text part.Short = codes "short"
-judged_text part.Overlap = codes "overlap"
-judged_text part.Iterated = codes "iterated"
-judged_text part.Endo = codes "endo"
-judged_text part.Fixed = codes "fixed"
-judged_text part.Map = codes "map"
-judged_text part.Answer = codes "answer"
+abbrev pub part_text : Part → List ℕ
+part_text part.Extra = codes "extra"
+part_text part.Row = codes "row"
+part_text part.Sum = codes "sum"
+part_text part.Rank = codes "rank"
+part_text part.Short = codes "short"
+part_text part.Overlap = codes "overlap"
+part_text part.Iterated = codes "iterated"
+part_text part.Endo = codes "endo"
+part_text part.Fixed = codes "fixed"
+part_text part.Map = codes "map"
+part_text part.Answer = codes "answer"
 
 -- a part of a certificate fails
 abbrev pub failing_part_line : Run → ℕ → Part → List ℕ
 failing_part_line run k p =
     codes "refused: certificate run "
-    ++ (run_text run ++ (codes " class " ++ (decimal k ++ (codes " " ++ (judged_text p ++ 10 ∷ [])))))
+    ++ (run_text run ++ (codes " class " ++ (decimal k ++ (codes " " ++ (part_text p ++ 10 ∷ [])))))
 
 abbrev pub refusal_line : Refusal → List ℕ
 refusal_line Words = codes "refused: words" ++ 10 ∷ []
 refusal_line ReadFault = codes "refused: read fault" ++ 10 ∷ []
 refusal_line (InputTooLong input) = too_long_line input
 refusal_line (Text fault) = fault_line fault
-refusal_line (TooLarge part k rank) = too_large_line part k rank
+refusal_line (TooLarge run k rank) = too_large_line run k rank
 refusal_line (CertificateLine n) = certificate_line n
 refusal_line (CertificatePart run k p) = failing_part_line run k p
 refusal_line NoMemory = codes "refused: no memory" ++ 10 ∷ []
@@ -107,7 +109,7 @@ refusal_status Words = status.BadWords
 refusal_status ReadFault = status.ReadFault
 refusal_status (InputTooLong input) = status.InputTooLong
 refusal_status (Text fault) = status.BadText
-refusal_status (TooLarge part k rank) = status.TooLarge
+refusal_status (TooLarge run k rank) = status.TooLarge
 refusal_status (CertificateLine n) = status.CertRefused
 refusal_status (CertificatePart run k p) = status.CertRefused
 refusal_status NoMemory = status.NoMemory
@@ -119,7 +121,7 @@ refusal_of_reading reading.NoMemory = NoMemory
 
 -- why a presentation that has no answer is refused
 abbrev pub refusal_of_tower : TowerRefusal → Refusal
-refusal_of_tower (tower.TooLarge part k rank) = TooLarge part k rank
+refusal_of_tower (tower.TooLarge run k rank) = TooLarge run k rank
 refusal_of_tower tower.NoMemory = NoMemory
 
 -- why an input that wasn't read as a certificate is refused

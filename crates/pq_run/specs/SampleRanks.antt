@@ -1,5 +1,6 @@
 -- What a sample may be: one some of whose largest quotients up to its class have a rank above the limit, or one with none such. A sample
 -- has no iterated part that is computed first.
+-- From: this project's own commands.
 use Rattle.std.specs.Prelude.{◌<◌, ◌≤◌, ℕ}
 use Rattle.pq_base.specs.Limits.{max_rank}
 use Rattle.pq_base.specs.Largest.{HasOrder}

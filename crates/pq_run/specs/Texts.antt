@@ -1,5 +1,6 @@
 -- What the bytes of a presentation's input may be: no presentation, or one some of whose largest quotients up to a class have a rank
 -- above the limit, or one with none such. The largest quotients of the iterated part count where it is computed first.
+-- From: this project's own commands.
 use Rattle.std.specs.Prelude.{◌<◌, ◌≤◌, ℕ, List}
 use Rattle.pq_base.specs.Limits.{max_rank}
 use Rattle.pq_base.specs.LPresentation.{LPresentation}
@@ -17,10 +18,10 @@ IsReadable bytes = (L : LPresentation) × Reads bytes L
 
 -- the bytes read as a presentation, and the first largest quotient up to p-class c that has a rank above the limit is that of class
 -- k: its rank is r. It is one of the iterated part, where a run computes that first, else one of the whole
-pub record HasLargeRank (p c : ℕ) (part : Run) (k r : ℕ) (bytes : List ℕ) : Type 0 where
+pub record HasLargeRank (p c : ℕ) (run : Run) (k r : ℕ) (bytes : List ℕ) : Type 0 where
   pub presentation : LPresentation
   pub reads : Reads bytes presentation
-  pub large : IsTooLargeIn presentation p c part k r
+  pub large : IsTooLargeIn presentation p c run k r
 
 -- the bytes read as a presentation, and each of its largest quotients up to p-class c has a rank within the limit, as has each of its
 -- iterated part, where that is computed first

@@ -1,4 +1,5 @@
-// The output of `check`: from the bytes of a source to the text of the answer of a valid certificate.
+//! The output of `check`: from the bytes of a source to the text of the answer of a valid certificate.
+
 ghost use Rattle.std.specs.Prelude.{◌≡◌, ◌≤◌, ◌+◌, [], Some, IfOk, IfErr, IfSome};
 ghost use Rattle.derivation_log.specs.CertificateParts.{full_kind};
 ghost use Rattle.derivation_log.specs.Validity.{IsValid};
@@ -19,7 +20,7 @@ use pq_io::Source;
 use std::alloc::Global;
 
 /// Reads a certificate to its end, and gives the bytes of its answer where it is valid.
-pub fn output_of_certificate<S: Source>(alloc: Global, source: &mut S) -> Result<Vec<u8>, Refusal>
+pub(crate) fn output_of_check<S: Source>(alloc: Global, source: &mut S) -> Result<Vec<u8>, Refusal>
     ensures read { IfOk result (λ bytes. IfSome (S.left source.old) (λ text. S.left source.new ≡ Some [])) }
     ensures within { IfOk result (λ bytes. IfSome (S.left source.old) (IsWithin Certificate)) }
     ensures output { IfOk result (λ bytes. IfSome (S.left source.old) (λ text. WritesCheckedAnswer text bytes.items)) }

@@ -1,4 +1,5 @@
-// The commands, and the words that spell them.
+//! The commands, and the words that spell them.
+
 ghost use Rattle.std.specs.Prelude.{◌≡◌, ◌∷◌, [], ℕ, IfSome, IfNone, decimal};
 ghost use Rattle.pq_base.specs.Prime.{prime_value};
 ghost use Rattle.pq_run.specs.Command.{IsClass, CommandWords, AreCommandWords};
@@ -10,15 +11,22 @@ use crate::words::Words;
 use pq_base::Prime;
 use pq_base::limits::CLASS;
 
+/// The form in which the answer of a presentation is given.
+#[derive(Clone, Copy, Debug, PartialEq, Eq)]
+pub enum Form {
+    /// Lines of text.
+    Text,
+    /// A JSON value on one line.
+    Json,
+    /// Lines of text, in a certificate that says how it is made.
+    Certificate,
+}
+
 /// What the program is asked for. Classes are from 1 to 60, sample numbers from 0 to 999,999.
 #[derive(Clone, Copy, Debug, PartialEq, Eq)]
 pub enum Command {
-    /// The answer of a presentation, as text.
-    Quotient(Prime, u8),
-    /// The same answer, as JSON.
-    Json(Prime, u8),
-    /// A certificate of that answer.
-    Certify(Prime, u8),
+    /// The answer of a presentation, in a form.
+    Quotient(Prime, u8, Form),
     /// The answer of a valid certificate.
     Check,
     /// The summary of a numbered sample.
@@ -32,8 +40,6 @@ impl Command {
     {
         match self {
             Command::Quotient(..) => Some(Input::Presentation),
-            Command::Json(..) => Some(Input::Presentation),
-            Command::Certify(..) => Some(Input::Presentation),
             Command::Check => Some(Input::Certificate),
             Command::Sample(_) => None,
         }
@@ -57,6 +63,7 @@ pub fn parse_words(words: &Words) -> Option<Command>
     }
 }
 
+/// The command that is this one word, if it is one.
 fn of_one(verb: &str) -> Option<Command>
     ensures some { IfSome result (λ c. CommandWords (verb.now ∷ []) c) }
     ensures none { IfNone result (¬ AreCommandWords (verb.now ∷ [])) }
@@ -68,6 +75,7 @@ fn of_one(verb: &str) -> Option<Command>
     }
 }
 
+/// The command that these two words spell, if they spell one.
 fn of_two(verb: &str, number: &str) -> Option<Command>
     ensures some { IfSome result (λ c. CommandWords (verb.now ∷ number.now ∷ []) c) }
     ensures none { IfNone result (¬ AreCommandWords (verb.now ∷ number.now ∷ [])) }
@@ -81,6 +89,7 @@ fn of_two(verb: &str, number: &str) -> Option<Command>
     }
 }
 
+/// The command that these three words spell, if they spell one.
 fn of_three(verb: &str, prime: &str, class: &str) -> Option<Command>
     ensures some { IfSome result (λ c. CommandWords (verb.now ∷ prime.now ∷ class.now ∷ []) c) }
     ensures none { IfNone result (¬ AreCommandWords (verb.now ∷ prime.now ∷ class.now ∷ [])) }
@@ -88,14 +97,15 @@ fn of_three(verb: &str, prime: &str, class: &str) -> Option<Command>
     let prime = prime_of(prime)?;
     let class = class_of(class)?;
     if verb == "quotient" {
-        Some(Command::Quotient(prime, class))
+        Some(Command::Quotient(prime, class, Form::Text))
     } else if verb == "certify" {
-        Some(Command::Certify(prime, class))
+        Some(Command::Quotient(prime, class, Form::Certificate))
     } else {
         None
     }
 }
 
+/// The command that these four words spell, if they spell one.
 fn of_four(verb: &str, prime: &str, class: &str, form: &str) -> Option<Command>
     ensures some { IfSome result (λ c. CommandWords (verb.now ∷ prime.now ∷ class.now ∷ form.now ∷ []) c) }
     ensures none { IfNone result (¬ AreCommandWords (verb.now ∷ prime.now ∷ class.now ∷ form.now ∷ [])) }
@@ -103,12 +113,13 @@ fn of_four(verb: &str, prime: &str, class: &str, form: &str) -> Option<Command>
     let prime = prime_of(prime)?;
     let class = class_of(class)?;
     if verb == "quotient" && form == "json" {
-        Some(Command::Json(prime, class))
+        Some(Command::Quotient(prime, class, Form::Json))
     } else {
         None
     }
 }
 
+/// The prime, one of those that are offered, whose digits a text is.
 fn prime_of(text: &str) -> Option<Prime>
     ensures some { IfSome result (λ p. text.now ≡ decimal (prime_value p)) }
     ensures none { IfNone result ((p : Prime) → text.now ≡ decimal (prime_value p) → ⊥) }
@@ -119,6 +130,7 @@ fn prime_of(text: &str) -> Option<Prime>
     }
 }
 
+/// The class from 1 to 60 whose digits a text is.
 fn class_of(text: &str) -> Option<u8>
     ensures some { IfSome result (λ c. text.now ≡ decimal c) }
     ensures range { IfSome result (λ c. IsClass c) }

@@ -1,4 +1,5 @@
-// The output of `sample N`: the summary of the answer of a sample.
+//! The output of `sample N`: the summary of the answer of a sample.
+
 ghost use Rattle.std.specs.Prelude.{◌≤◌, IfOk, IfErr};
 ghost use Rattle.samples.specs.Samples.{max_sample};
 ghost use Rattle.pq_run.specs.SampleRanks.{HasSmallSampleRanks};
@@ -13,7 +14,7 @@ use std::alloc::Global;
 use tower::largest;
 
 /// Gives the bytes of the summary of a sample's answer.
-pub fn output_of_sample(alloc: Global, n: u32) -> Result<Vec<u8>, Refusal>
+pub(crate) fn output_of_sample(alloc: Global, n: u32) -> Result<Vec<u8>, Refusal>
     requires { n ≤ max_sample }
     ensures small { IfOk result (λ bytes. HasSmallSampleRanks n) }
     ensures output { IfOk result (λ bytes. WritesSummary n bytes.items) }

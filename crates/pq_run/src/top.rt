@@ -1,23 +1,23 @@
-// The top call: from the words of a command and the bytes of a source to the bytes that a sink takes.
+//! The top call: from the words of a command and the bytes of a source to the bytes that a sink takes.
+
 ghost use Rattle.std.specs.Prelude.{◌≡◌, ◌≢◌, ◌+◌, ◌⊎◌, ◌↔◌, ◌≤◌, ℕ, List, IfSome, IsNone};
+ghost use Rattle.samples.specs.Samples.{max_sample};
 ghost use Rattle.pq_io.specs.Faults.{Rose};
 ghost use Rattle.pq_io.specs.Writing.{Gains, GainsProperPrefix};
 ghost use Rattle.pq_run.specs.declared.input.Input.TheVariants.{Presentation, Certificate};
 ghost use Rattle.pq_run.specs.Command.{IsClass, AreCommandWords, CommandWords, Asks};
 ghost use Rattle.pq_run.specs.Input.{byte_limit, IsTaken, IsTakenBy};
-ghost use Rattle.pq_run.specs.Form.{quotient_command};
-ghost use Rattle.samples.specs.Samples.{max_sample};
-ghost use Rattle.pq_run.specs.declared.command.Command.TheVariants.{Check, Sample};
+ghost use Rattle.pq_run.specs.declared.command.Command.TheVariants.{Quotient, Check, Sample};
 ghost use Rattle.pq_run.specs.Kinds.{IsReading, IsTooLong, IsBadText, IsTooLarge, IsCertRefused, IsAnswered, IsLargeSample, IsSmallSample};
 ghost use Rattle.pq_run.specs.Streams.{Reading, reading_of, writing_of};
 ghost use Rattle.pq_run.specs.Ends.{IsDone, IsOnlyOutput, IsCut, IsRefused, IsDecided, Ends};
 ghost use Rattle.pq_run.specs.Headline.{Headline};
 
-use crate::check_output::output_of_certificate;
-use crate::command::{Command, parse_words};
-use crate::form::Form;
-use crate::output::output_of_source;
-use crate::refusal::{Refusal, refuse};
+use crate::check_output::output_of_check;
+use crate::command::{Command, Form, parse_words};
+use crate::quotient_output::output_of_quotient;
+use crate::refusal::Refusal;
+use crate::refusing::refuse;
 use crate::sample_output::output_of_sample;
 use crate::words::Words;
 use pq_base::{Prime, Status};
@@ -57,8 +57,8 @@ pub fn run<S: Source, K: Sink>(alloc: Global, words: &Words, source: &mut S, sin
     ensures too_long { IfSome (S.left source.old) (λ bytes. Asks (IsTooLong bytes) words.now → IsDecided Status.InputTooLong result) }
     ensures bad_text { IfSome (S.left source.old) (λ bytes. Asks (IsBadText bytes) words.now → IsDecided Status.BadText result) }
     ensures too_large { IfSome (S.left source.old) (λ bytes. Asks (IsTooLarge bytes) words.now → IsDecided Status.TooLarge result) }
-
-    ensures cert_refused { IfSome (S.left source.old) (λ bytes. Asks (IsCertRefused bytes) words.now → IsDecided Status.CertRefused result) }
+    ensures cert_refused { IfSome (S.left source.old)
+        (λ bytes. Asks (IsCertRefused bytes) words.now → IsDecided Status.CertRefused result) }
 
     // Where nothing fails and the input is one that is answered, as each presentation is whose largest quotients have ranks within the
     // limit, those of its iterated part too where that is computed first, and each valid certificate, the command is done, unless memory
@@ -72,6 +72,7 @@ pub fn run<S: Source, K: Sink>(alloc: Global, words: &Words, source: &mut S, sin
     ensures sample_complete { Asks IsSmallSample words.now → ¬ Rose (K.faults sink.old) (K.faults sink.new)
         → (result ≡ Status.Done) ⊎ (result ≡ Status.NoMemory) }
 
+    // Counts of faults never fall, no more is taken than may be, and a sink that has stopped telling never tells again.
     ensures read_count { S.faults source.old ≤ S.faults source.new }
     ensures write_count { K.faults sink.old ≤ K.faults sink.new }
     ensures left { IsTakenBy words.now (S.left source.old) (S.left source.new) }
@@ -80,6 +81,7 @@ pub fn run<S: Source, K: Sink>(alloc: Global, words: &Words, source: &mut S, sin
     carry_out(alloc, words, source, sink)
 }
 
+/// Carries out the command. Its clause `ends` says all that may come of it; those of `run` follow from that.
 fn carry_out<S: Source, K: Sink>(
     alloc: Global,
     words: &Words,
@@ -97,14 +99,8 @@ fn carry_out<S: Source, K: Sink>(
 {
     match parse_words(words) {
         None => refuse(alloc, sink, Refusal::Words),
-        Some(Command::Quotient(prime, class)) => {
-            quotient(alloc, prime, class, Form::Text, source, sink)
-        }
-        Some(Command::Json(prime, class)) => {
-            quotient(alloc, prime, class, Form::Json, source, sink)
-        }
-        Some(Command::Certify(prime, class)) => {
-            quotient(alloc, prime, class, Form::Certificate, source, sink)
+        Some(Command::Quotient(prime, class, form)) => {
+            quotient(alloc, prime, class, form, source, sink)
         }
         Some(Command::Check) => check(alloc, source, sink),
         Some(Command::Sample(n)) => summarize(alloc, n, sink),
@@ -121,14 +117,14 @@ fn quotient<S: Source, K: Sink>(
     sink: &mut K,
 ) -> Status
     requires { IsClass class }
-    ensures ends { (words : List (List ℕ)) → CommandWords words (quotient_command prime class form)
+    ensures ends { (words : List (List ℕ)) → CommandWords words (Quotient prime class form)
         → Ends words (reading_of S.left S.faults source.old source.new) (writing_of K.taken K.faults sink.old sink.new) result }
     ensures read_count { S.faults source.old ≤ S.faults source.new }
     ensures write_count { K.faults sink.old ≤ K.faults sink.new }
     ensures left { IsTaken (byte_limit Presentation + 1) (S.left source.old) (S.left source.new) }
     ensures silent { IsNone (K.taken sink.old) → IsNone (K.taken sink.new) }
 {
-    match output_of_source(alloc, prime, class, form, source) {
+    match output_of_quotient(alloc, prime, class, form, source) {
         Ok(bytes) => finish(sink, &bytes),
         Err(refusal) => refuse(alloc, sink, refusal),
     }
@@ -143,7 +139,7 @@ fn check<S: Source, K: Sink>(alloc: Global, source: &mut S, sink: &mut K) -> Sta
     ensures left { IsTaken (byte_limit Certificate + 1) (S.left source.old) (S.left source.new) }
     ensures silent { IsNone (K.taken sink.old) → IsNone (K.taken sink.new) }
 {
-    match output_of_certificate(alloc, source) {
+    match output_of_check(alloc, source) {
         Ok(bytes) => finish(sink, &bytes),
         Err(refusal) => refuse(alloc, sink, refusal),
     }

@@ -1,4 +1,5 @@
-// The words of the command line, as a list of texts.
+//! The words of the command line, as a list of texts.
+
 ghost use Rattle.std.specs.Prelude.{◌≡◌, ◌<◌, ◌↔◌, ℕ, List, [], ◌∷◌, ◌++◌, OnOk, OnErr, IsTrue, length, slice_index_or};
 
 use pq_base::NoMemory;

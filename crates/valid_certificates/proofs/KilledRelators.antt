@@ -1,7 +1,8 @@
 -- The answer of a certificate whose parts keep what they have to kills the relators: the fixed ones are judged one by one; an iterated
 -- one is judged itself, and dies along each list of endomorphisms since these make maps of an answer into itself, or of the one that the
 -- run over the iterated part builds, which is mapped into this one. No answer need be consistent.
-use Rattle.std.proofs.Common.{◌≡◌, ◌<◌, ℕ, zero, suc, Bool, true, false, not, ltb, ◌&&◌, ℤ, List, [], ◌∷◌, get_or, length, refl, ap, ap₂, sym, ◌∙◌, subst, arith, inl, inr}
+use Rattle.std.proofs.Common.{◌≡◌, ◌<◌, ℕ, zero, suc, Bool, true, false, not, ltb, ◌&&◌, ℤ, List, [], ◌∷◌, get_or, length, refl, ap, ap₂}
+use Rattle.std.proofs.Common.{sym, ◌∙◌, subst, arith, inl, inr}
 use Rattle.std.specs.List.{All}
 use Rattle.std.proofs.lemmas.Bool.{cases_Bool, ltb-false}
 use Rattle.std.proofs.lemmas.List.{length-map}

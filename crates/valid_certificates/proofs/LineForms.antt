@@ -1,9 +1,11 @@
 -- What the form of the tail lines of a step says of a line: its coefficients are residues, and it names no tail from its own on, and
 -- none that has a line.
-use Rattle.std.proofs.Common.{◌≡◌, ◌<◌, ◌≤◌, ℕ, suc, Bool, true, false, not, leb, ltb, eqb, ◌&&◌, List, [], ◌∷◌, length, refl, ap, ◌∙◌, arith}
+use Rattle.std.proofs.Common.{◌≡◌, ◌<◌, ◌≤◌, ℕ, suc, Bool, true, false, not, leb, ltb, eqb, ◌&&◌, List, [], ◌∷◌, length, refl, ap, ◌∙◌}
+use Rattle.std.proofs.Common.{arith}
 use Rattle.std.proofs.lemmas.Bool.{and_parts, cond_both, eqb-true, leb-true, ltb-true}
 use Rattle.derivation_log.specs.Certificates.{TailLine}
-use Rattle.derivation_log.specs.CertificateForms.{max_number, is_number_from, are_pairs, are_at_most, has_line, are_kept_below, is_tail_line, are_tail_lines}
+use Rattle.derivation_log.specs.CertificateForms.{max_number, is_number_from, are_pairs, are_at_most, has_line, are_kept_below}
+use Rattle.derivation_log.specs.CertificateForms.{is_tail_line, are_tail_lines}
 use Rattle.derivation_log.specs.CertificateRuns.{coefficient_in}
 
 -- a line among others

@@ -1,6 +1,7 @@
 -- The lines of a step as a reduced basis: the row of a line is its tail minus the tails that the line says it equals, so it is 1 at its
 -- tail, and 0 behind it and at the tails of the other lines.
-use Rattle.std.proofs.Common.{◌≡◌, ◌≢◌, ◌+◌, ◌-◌, ◌*◌, ◌%◌, ◌<◌, ◌≤◌, ℕ, suc, Bool, true, false, eqb, ◌||◌, List, [], ◌∷◌, map, refl, ap, sym, ◌∙◌, subst, arith, eq-eqb, mod-eq_of_lt, mul-zero, inl, inr}
+use Rattle.std.proofs.Common.{◌≡◌, ◌≢◌, ◌+◌, ◌-◌, ◌*◌, ◌%◌, ◌<◌, ◌≤◌, ℕ, suc, Bool, true, false, eqb, ◌||◌, List, [], ◌∷◌, map, refl, ap}
+use Rattle.std.proofs.Common.{sym, ◌∙◌, subst, arith, eq-eqb, mod-eq_of_lt, mul-zero, inl, inr}
 use Rattle.std.proofs.lemmas.Bool.{cases_lt}
 use Rattle.std.proofs.lemmas.List.{get_or_past}
 use Rattle.std.specs.List.{All}

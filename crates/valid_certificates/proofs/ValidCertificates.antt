@@ -16,7 +16,8 @@ use Rattle.derivation_log.proofs.JudgedOverlaps.{overlaps-consistent}
 use Rattle.derivation_log.proofs.ValidParts.{valid-keeps}
 use Rattle.valid_certificates.specs.ReachedAnswers.{HasForm, IsSoundKind, IsHandedOn}
 use Rattle.valid_certificates.specs.ValidRuns.{IsBuilt}
-use Rattle.valid_certificates.specs.ValidityLaws.{StepsReachAnswers, RunsBuildAnswers, RunsAreUniversal, RunsAreConsistent, ValidCertificatesKill, ValidCertificatesAreLargest, ValidCertificatesAreCanonical}
+use Rattle.valid_certificates.specs.ValidityLaws.{StepsReachAnswers, RunsBuildAnswers, RunsAreUniversal, RunsAreConsistent}
+use Rattle.valid_certificates.specs.ValidityLaws.{ValidCertificatesKill, ValidCertificatesAreLargest, ValidCertificatesAreCanonical}
 use Rattle.valid_certificates.proofs.ValidRuns.{names-of, answers-after, run-builds}
 use Rattle.valid_certificates.proofs.KilledRelators.{IsNamed, answer-kills}
 use Rattle.valid_certificates.proofs.FullRuns.{full-sound, Nothing, full-handed, run-canonical}

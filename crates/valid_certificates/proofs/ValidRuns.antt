@@ -1,6 +1,7 @@
 -- A run whose steps pass builds an answer that all elements that obey its presentation fit up to the class that is asked for: step by
 -- step, and where a step keeps no tail, at every later level.
-use Rattle.std.proofs.Common.{◌≡◌, ◌≢◌, ◌⊎◌, ◌-◌, ◌<◌, ◌≤◌, ℕ, zero, suc, true, ◌&&◌, List, [], ◌∷◌, get_or, length, refl, ap, sym, ◌∙◌, subst, arith, inl, inr}
+use Rattle.std.proofs.Common.{◌≡◌, ◌≢◌, ◌⊎◌, ◌-◌, ◌<◌, ◌≤◌, ℕ, zero, suc, true, ◌&&◌, List, [], ◌∷◌, get_or, length, refl, ap, sym, ◌∙◌}
+use Rattle.std.proofs.Common.{subst, arith, inl, inr}
 use Rattle.std.proofs.lemmas.Bool.{and_parts, cases_lt}
 use Rattle.pq_base.specs.Limits.{max_class, max_names}
 use Rattle.pq_base.specs.LPresentation.{LPresentation, IsLPresentation}
@@ -25,7 +26,8 @@ use Rattle.derivation_log.specs.CertificateParts.{CertificateKind, IsNotExtra, A
 use Rattle.derivation_log.specs.ValidParts.{KeepsRun}
 use Rattle.valid_certificates.specs.ReachedAnswers.{HasForm, IsSoundKind, IsReached, IsHandedOn}
 use Rattle.valid_certificates.specs.ValidRuns.{KeepTailsBefore, IsAnswerAfter, IsBuilt}
-use Rattle.valid_certificates.proofs.PassedStep.{PassesOver, step_basis, step-over, kept_allowed, step-count, step-makes, step-reaches, step-is_next, step-stays, step-fitted}
+use Rattle.valid_certificates.proofs.PassedStep.{PassesOver, step_basis, step-over, kept_allowed, step-count, step-makes, step-reaches}
+use Rattle.valid_certificates.proofs.PassedStep.{step-is_next, step-stays, step-fitted}
 
 -- both presentations have the same names, and words of them
 pub names-of : (c : Certificate) (run : Run) → (presentation_of c run).names ≡ c.presentation.names

@@ -2,7 +2,8 @@
 
 ghost use Rattle.valid_certificates.specs.LineBases.{LinesHaveBases};
 ghost use Rattle.valid_certificates.specs.ReachedAnswers.{RowsOfSourcesAreTrusted};
-ghost use Rattle.valid_certificates.specs.ValidityLaws.{StepsReachAnswers, RunsBuildAnswers, RunsAreUniversal, RunsAreConsistent, ValidCertificatesKill, ValidCertificatesAreLargest, ValidCertificatesAreCanonical};
+ghost use Rattle.valid_certificates.specs.ValidityLaws.{StepsReachAnswers, RunsBuildAnswers, RunsAreUniversal, RunsAreConsistent};
+ghost use Rattle.valid_certificates.specs.ValidityLaws.{ValidCertificatesKill, ValidCertificatesAreLargest, ValidCertificatesAreCanonical};
 
 /// Lines in the form that they have in a certificate, each a sum of rows, make of their cover what a reduced basis in the span of
 /// these rows makes: they keep the same tails, and where they keep any the next answer is the same.
@@ -22,19 +23,19 @@ pub fn steps_reach_answers()
     ensures { StepsReachAnswers }
 {}
 
-/// Such a run builds an answer of the class that its steps reach, which is at most the one that is asked for, and all elements that obey
-/// the presentation fit it up to the latter.
+/// Where all parts of a run keep what they have to, it builds an answer of the class that its steps reach, which is at most the one that
+/// is asked for, and all elements that obey the presentation fit it up to the latter.
 pub fn runs_build_answers()
     ensures { RunsBuildAnswers }
 {}
 
-/// So each map of the given generators that obeys the presentation, into a group of the class that is asked for, factors through this
-/// answer exactly once.
+/// Each map of the given generators that obeys the presentation, into a group of the class that is asked for, factors exactly once through
+/// the answer that such a run builds.
 pub fn runs_are_universal()
     ensures { RunsAreUniversal }
 {}
 
-/// The answer is consistent.
+/// The answer that such a run builds is consistent.
 pub fn runs_are_consistent()
     ensures { RunsAreConsistent }
 {}
@@ -49,7 +50,7 @@ pub fn valid_certificates_are_largest()
     ensures { ValidCertificatesAreLargest }
 {}
 
-/// And it is canonical.
+/// The answer of a valid certificate is canonical.
 pub fn valid_certificates_are_canonical()
     ensures { ValidCertificatesAreCanonical }
 {}

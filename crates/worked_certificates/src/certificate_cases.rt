@@ -42,6 +42,7 @@ impl Cases for CertificateCases {
 
 /// The certificate of a text, or `None` where the line of its first fault is shown.
 fn cert_or_line(alloc: Global, text: &[u8], out: &mut String) -> Result<Option<Cert>> {
+    // longer than any case, and far below the length from which on a text isn't read
     if text.len() > 1_000_000 {
         bail!("too long");
     }

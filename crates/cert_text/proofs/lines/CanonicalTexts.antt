@@ -16,7 +16,8 @@ use Rattle.cert_text.specs.CertificateText.{HasText}
 canonical-reads : (text : List ℕ) (L : LPresentation) → HasText L → text ≡ canonical_text L → Reads text L
 canonical-reads text L a e = subst (λ (t : List ℕ). Reads t L) (sym e) (canonical_texts_read_back L a.names a.presentation a.limits)
 
-not-canonical-fault : (text : List ℕ) (n : ℕ) (kind : Kind) → FirstFault text n kind → (L : LPresentation) → HasText L → ¬ (text ≡ canonical_text L)
+not-canonical-fault : (text : List ℕ) (n : ℕ) (kind : Kind) → FirstFault text n kind → (L : LPresentation) → HasText L
+    → ¬ (text ≡ canonical_text L)
 not-canonical-fault text n kind fault L a e = (each_text_reads_or_fails text).not_both L n kind (canonical-reads text L a e) fault
 
 pub not-canonical-other : (text written : List ℕ) (M : LPresentation) → Reads text M → written ≡ canonical_text M → (text ≡ written → ⊥)

@@ -16,7 +16,8 @@ use Rattle.derivation_log.specs.Certificates.{TailLine, StepLines}
 use Rattle.derivation_log.specs.CertificateForms.{is_number_from, is_tail_line, are_tail_lines}
 use Rattle.cert_text.specs.CertificatePlaces.{Place, HasForm, IsEnd, Head, IsHead, with_source, with_tail}
 use Rattle.cert_text.specs.CertificatePlaces.Place.{in_presentation, for_class, for_run, in_run, in_answer}
-use Rattle.cert_text.specs.CertificatePlaces.HasForm.{version, generators, item, prime, class, first_of_two_runs, only_run, step, source, tail, second_run, answer, of_answer}
+use Rattle.cert_text.specs.CertificatePlaces.HasForm.{version, generators, item, prime, class, first_of_two_runs, only_run, step, source}
+use Rattle.cert_text.specs.CertificatePlaces.HasForm.{tail, second_run, answer, of_answer}
 use Rattle.cert_text.proofs.texts.NumberTexts.{decimal-told, avoids-any_decimal}
 use Rattle.cert_text.proofs.texts.SourceTexts.{IsWrittenSource-in, source_line-same, avoids-source_line}
 use Rattle.cert_text.proofs.texts.TailTexts.{IsWrittenTail, IsWrittenTail-is_tail_line, tail_line-same, avoids-tail_line}
@@ -45,10 +46,13 @@ last-line p n least lines [] l h =
     let parts = and_parts (is_number_from least l.tail) (is_tail_line p n lines l && true) h in
     (least, parts.0, (and_parts (is_tail_line p n lines l) true parts.1).0)
 last-line p n least lines (k ∷ before) l h =
-    let parts = and_parts (is_number_from least k.tail) (is_tail_line p n lines k && are_tail_lines p n lines (suc k.tail) (before ++ l ∷ [])) h in
-    last-line p n (suc k.tail) lines before l (and_parts (is_tail_line p n lines k) (are_tail_lines p n lines (suc k.tail) (before ++ l ∷ [])) parts.1).1
+    let parts =
+    and_parts (is_number_from least k.tail) (is_tail_line p n lines k && are_tail_lines p n lines (suc k.tail) (before ++ l ∷ [])) h in
+    last-line p n (suc k.tail) lines before l
+    (and_parts (is_tail_line p n lines k) (are_tail_lines p n lines (suc k.tail) (before ++ l ∷ [])) parts.1).1
 
-written-tail : (H : Head) (s : StepLines) (l : TailLine) → IsHead H → are_tail_lines H.prime (length s.sources) (s.tails ++ l ∷ []) 1 (s.tails ++ l ∷ []) ≡ true → IsWrittenTail l
+written-tail : (H : Head) (s : StepLines) (l : TailLine) → IsHead H
+    → are_tail_lines H.prime (length s.sources) (s.tails ++ l ∷ []) 1 (s.tails ++ l ∷ []) ≡ true → IsWrittenTail l
 written-tail H s l h lines =
     let small : H.prime < 8 = offered-small H.prime h.offered in
     let last = last-line H.prime (length s.sources) 1 (s.tails ++ l ∷ []) s.tails l lines in
@@ -72,24 +76,29 @@ form-same version version h = refl
 form-same (generators L line a e) (generators M other b f) h =
     ap (λ (x : LPresentation). in_presentation x) (canonical_lines-same L M a b (e ∙ ap (λ (l : List ℕ). l ∷ []) h ∙ sym f))
 form-same (item L M line a e) (item L2 N other b f) h =
-    ap (λ (x : LPresentation). in_presentation x) (canonical_lines-same M N a b (e ∙ ap (λ (l : List ℕ). canonical_lines L ++ l ∷ []) h ∙ sym f))
+    ap (λ (x : LPresentation). in_presentation x)
+    (canonical_lines-same M N a b (e ∙ ap (λ (l : List ℕ). canonical_lines L ++ l ∷ []) h ∙ sym f))
 form-same (item L M line a e) (prime L2 p o) h = absurd (not-prime L M line p e h)
 form-same (prime L p o) (item L2 N other b f) h = absurd (not-prime L N other p f (sym h))
 form-same (prime L p o) (prime L2 q u) h = ap (λ (x : ℕ). for_class L x) (prime_line-same p q o u h)
-form-same (class L p c a b) (class L2 q d e f) h = ap (λ (x : ℕ). for_run (record { presentation = L; prime = p; class = x })) (class_line-same c d b f h)
+form-same (class L p c a b) (class L2 q d e f) h = ap (λ (x : ℕ). for_run (record { presentation = L; prime = p; class = x }))
+    (class_line-same c d b f h)
 form-same (first_of_two_runs H two) (first_of_two_runs H2 too) h = refl
 form-same (first_of_two_runs H two) (only_run H2 one) h = let bad : true ≡ false = sym two ∙ one in cc
 form-same (only_run H one) (first_of_two_runs H2 two) h = let bad : true ≡ false = sym two ∙ one in cc
 form-same (only_run H one) (only_run H2 also) h = refl
 form-same (step H run earlier ss) (step H2 run2 earlier2 ss2) h = refl
-form-same (step H run earlier ss) (source H2 run2 earlier2 s2 ss2 a i none inside) h = absurd (first-apart 116 111 _ _ refl (ap (λ (t : List ℕ). drop 1 t) h))
+form-same (step H run earlier ss) (source H2 run2 earlier2 s2 ss2 a i none inside) h =
+    absurd (first-apart 116 111 _ _ refl (ap (λ (t : List ℕ). drop 1 t) h))
 form-same (step H run earlier ss) (tail H2 run2 earlier2 s2 ss2 l i lines) h = absurd (first-apart 115 116 _ _ refl h)
 form-same (step H run earlier ss) (second_run H2 ss2) h = absurd (first-apart 115 114 _ _ refl h)
 form-same (step H run earlier ss) (answer H2 earlier2 ss2) h = absurd (first-apart 115 97 _ _ refl h)
-form-same (source H run earlier s ss a i none inside) (step H2 run2 earlier2 ss2) h = absurd (first-apart 111 116 _ _ refl (ap (λ (t : List ℕ). drop 1 t) h))
+form-same (source H run earlier s ss a i none inside) (step H2 run2 earlier2 ss2) h =
+    absurd (first-apart 111 116 _ _ refl (ap (λ (t : List ℕ). drop 1 t) h))
 form-same (source H run earlier s ss a i none inside) (source H2 run2 earlier2 s2 ss2 b j none2 inside2) h =
     let limits = i.presentation.limits in
-    let same : a ≡ b = source_line-same a b (IsWrittenSource-in H.presentation run a limits inside) (IsWrittenSource-in H.presentation run b limits inside2) h in
+    let same : a ≡ b = source_line-same a b (IsWrittenSource-in H.presentation run a limits inside)
+    (IsWrittenSource-in H.presentation run b limits inside2) h in
     ap (λ (x : RowSource). in_run H run earlier (with_source s x ∷ ss)) same
 form-same (source H run earlier s ss a i none inside) (tail H2 run2 earlier2 s2 ss2 l j lines) h = absurd (first-apart 115 116 _ _ refl h)
 form-same (source H run earlier s ss a i none inside) (second_run H2 ss2) h = absurd (first-apart 115 114 _ _ refl h)
@@ -97,7 +106,8 @@ form-same (source H run earlier s ss a i none inside) (answer H2 earlier2 ss2) h
 form-same (tail H run earlier s ss l i lines) (step H2 run2 earlier2 ss2) h = absurd (first-apart 116 115 _ _ refl h)
 form-same (tail H run earlier s ss l i lines) (source H2 run2 earlier2 s2 ss2 a j none inside) h = absurd (first-apart 116 115 _ _ refl h)
 form-same (tail H run earlier s ss l i lines) (tail H2 run2 earlier2 s2 ss2 m j others) h =
-    ap (λ (x : TailLine). in_run H run earlier (with_tail s x ∷ ss)) (tail_line-same l m (written-tail H s l i lines) (written-tail H s m j others) h)
+    ap (λ (x : TailLine). in_run H run earlier (with_tail s x ∷ ss))
+    (tail_line-same l m (written-tail H s l i lines) (written-tail H s m j others) h)
 form-same (tail H run earlier s ss l i lines) (second_run H2 ss2) h = absurd (first-apart 116 114 _ _ refl h)
 form-same (tail H run earlier s ss l i lines) (answer H2 earlier2 ss2) h = absurd (first-apart 116 97 _ _ refl h)
 form-same (second_run H ss) (step H2 run2 earlier2 ss2) h = absurd (first-apart 114 115 _ _ refl h)

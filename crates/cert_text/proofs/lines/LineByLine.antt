@@ -12,7 +12,8 @@ pub record TellsPlaces (Place : Type 0) (HasForm : Place → List ℕ → Place 
   pub leads_to_one : (P Q R : Place) (l k : List ℕ) → HasForm P l Q → HasForm P k R → l ≡ k → Q ≡ R
   pub nothing_follows : (P Q : Place) (l : List ℕ) → IsEnd P → HasForm P l Q → ⊥
 
-module _ (Place : Type 0) (HasForm : Place → List ℕ → Place → Type 0) (IsEnd : Place → Type 0) (tells : TellsPlaces Place HasForm IsEnd) where
+module _ (Place : Type 0) (HasForm : Place → List ℕ → Place → Type 0) (IsEnd : Place → Type 0)
+    (tells : TellsPlaces Place HasForm IsEnd) where
   one_line : {P Q : Place} {l : List ℕ} → HasForm P l Q → avoids 10 l ≡ true
   one_line {P} {Q} {l} f = tells.avoids_newline P Q l f
 
@@ -32,7 +33,8 @@ module _ (Place : Type 0) (HasForm : Place → List ℕ → Place → Type 0) (I
   Leads = line_by_line.Leads Place HasForm
 
   -- what follows a line that has its form is whole where all is
-  pub IsWhole-step : (P Q : Place) (l rest bytes : List ℕ) (m : ℕ) → HasForm P l Q → bytes ≡ l ++ 10 ∷ rest → IsWhole P bytes (suc m) → IsWhole Q rest m
+  pub IsWhole-step : (P Q : Place) (l rest bytes : List ℕ) (m : ℕ) → HasForm P l Q → bytes ≡ l ++ 10 ∷ rest → IsWhole P bytes (suc m)
+      → IsWhole Q rest m
   IsWhole-step P Q l rest bytes m f e b =
       let parts = split-same 10 b.0 l b.2 rest (one_line b.3) (one_line f) (sym b.4 ∙ e) in
       let place : b.1 ≡ Q = one_place b.3 f parts.0 in
@@ -78,7 +80,8 @@ module _ (Place : Type 0) (HasForm : Place → List ℕ → Place → Type 0) (I
     Leads-past P Q (l ∷ ls) past a = Leads-past a.0 Q ls (stays P a.0 l past a.1) a.2
 
     -- one of the texts has its first line past such places where the other has one before them
-    too_far : (P Q R T : Place) (ks : List (List ℕ)) (l k x y : List ℕ) → P ≡ Q → HasForm Q l R → IsPast R → (IsPast T → ⊥) → Leads P (k ∷ ks) T
+    too_far : (P Q R T : Place) (ks : List (List ℕ)) (l k x y : List ℕ) → P ≡ Q → HasForm Q l R → IsPast R → (IsPast T → ⊥)
+        → Leads P (k ∷ ks) T
         → l ++ 10 ∷ x ≡ (k ++ 10 ∷ text_of_lines ks) ++ y → ⊥
     too_far P Q R T ks l k x y e f past before a h =
         let g : HasForm Q k a.0 = subst (λ (z : Place). HasForm z k a.0) e a.1 in
@@ -87,7 +90,8 @@ module _ (Place : Type 0) (HasForm : Place → List ℕ → Place → Type 0) (I
         before (Leads-past a.0 T ks (subst IsPast place past) a.2)
 
     -- the first line that leads past such places, and what follows it
-    pub Leads-same : (P Q R S T : Place) (ls ks : List (List ℕ)) (l k x y : List ℕ) → Leads P ls Q → Leads P ks S → HasForm Q l R → HasForm S k T
+    pub Leads-same : (P Q R S T : Place) (ls ks : List (List ℕ)) (l k x y : List ℕ) → Leads P ls Q → Leads P ks S → HasForm Q l R
+        → HasForm S k T
         → (IsPast Q → ⊥) → (IsPast S → ⊥) → IsPast R → IsPast T
         → text_of_lines ls ++ (l ++ 10 ∷ x) ≡ text_of_lines ks ++ (k ++ 10 ∷ y) → (R ≡ T) × (x ≡ y)
     Leads-same P Q R S T [] [] l k x y a b f g before also past too h =
@@ -102,6 +106,7 @@ module _ (Place : Type 0) (HasForm : Place → List ℕ → Place → Type 0) (I
     Leads-same P Q R S T (m ∷ ls) (n ∷ ks) l k x y a b f g before also past too h =
         let whole : m ++ 10 ∷ (text_of_lines ls ++ (l ++ 10 ∷ x)) ≡ n ++ 10 ∷ (text_of_lines ks ++ (k ++ 10 ∷ y)) =
         sym (append_assoc m (10 ∷ text_of_lines ls) (l ++ 10 ∷ x)) ∙ h ∙ append_assoc n (10 ∷ text_of_lines ks) (k ++ 10 ∷ y) in
-        let parts = split-same 10 m n (text_of_lines ls ++ (l ++ 10 ∷ x)) (text_of_lines ks ++ (k ++ 10 ∷ y)) (one_line a.1) (one_line b.1) whole in
+        let parts = split-same 10 m n (text_of_lines ls ++ (l ++ 10 ∷ x)) (text_of_lines ks ++ (k ++ 10 ∷ y)) (one_line a.1)
+        (one_line b.1) whole in
         let place : b.0 ≡ a.0 = one_place b.1 a.1 (sym parts.0) in
         Leads-same a.0 Q R S T ls ks l k x y a.2 (subst (λ (z : Place). Leads z ks S) place b.2) f g before also past too parts.1

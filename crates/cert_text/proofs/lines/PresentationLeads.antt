@@ -1,5 +1,6 @@
 -- The lines of a presentation's canonical text have their form in their places: each makes a presentation of those before it.
-use Rattle.std.proofs.Common.{◌≡◌, ◌≤◌, ◌+◌, ℕ, List, [], ◌∷◌, ◌++◌, All, length, map, codes, refl, sym, ap, subst, ◌∙◌, append_assoc, append-nil, arith}
+use Rattle.std.proofs.Common.{◌≡◌, ◌≤◌, ◌+◌, ℕ, List, [], ◌∷◌, ◌++◌, All, length, map, codes, refl, sym, ap, subst, ◌∙◌, append_assoc}
+use Rattle.std.proofs.Common.{append-nil, arith}
 use Rattle.std.specs.Prelude.{ℤ, sum_by}
 use Rattle.std.proofs.lemmas.List.{length-append}
 use Rattle.std.proofs.lemmas.List.Elements.{All-nil, All-cons, All-head, All-tail}
@@ -77,25 +78,31 @@ module _ {X : Type 0} (make : List X → LPresentation) (line : X → List ℕ)
       let more = items-lead (done ++ x ∷ []) left (λ front behind e. texts front behind (e ∙ same)) in (
         in_presentation (make (done ++ x ∷ [])),
         item (make done) (make (done ++ x ∷ [])) (line x) (texts (done ++ x ∷ []) left same) (next done x),
-        subst (λ (xs : List X). Leads Place HasForm (in_presentation (make (done ++ x ∷ []))) (map line left) (in_presentation (make xs))) same more,
+        subst (λ (xs : List X). Leads Place HasForm (in_presentation (make (done ++ x ∷ []))) (map line left) (in_presentation (make xs)))
+            same more,
       )
 
 abbrev relator_line : List ℕ → List (List ℕ) → List ℤ → List ℕ
 relator_line keyword names w = keyword ++ word_text names w
 
-relator_lines-map : (keyword : List ℕ) (names : List (List ℕ)) (ws : List (List ℤ)) → relator_lines keyword names ws ≡ map (relator_line keyword names) ws
+relator_lines-map : (keyword : List ℕ) (names : List (List ℕ)) (ws : List (List ℤ))
+    → relator_lines keyword names ws ≡ map (relator_line keyword names) ws
 relator_lines-map keyword names [] = refl
-relator_lines-map keyword names (w ∷ ws) = ap (λ (ls : List (List ℕ)). relator_line keyword names w ∷ ls) (relator_lines-map keyword names ws)
+relator_lines-map keyword names (w ∷ ws) =
+    ap (λ (ls : List (List ℕ)). relator_line keyword names w ∷ ls) (relator_lines-map keyword names ws)
 
-relator_lines-append : (keyword : List ℕ) (names : List (List ℕ)) (us vs : List (List ℤ)) → relator_lines keyword names (us ++ vs) ≡ relator_lines keyword names us ++ relator_lines keyword names vs
+relator_lines-append : (keyword : List ℕ) (names : List (List ℕ)) (us vs : List (List ℤ))
+    → relator_lines keyword names (us ++ vs) ≡ relator_lines keyword names us ++ relator_lines keyword names vs
 relator_lines-append keyword names [] vs = refl
-relator_lines-append keyword names (u ∷ us) vs = ap (λ (ls : List (List ℕ)). relator_line keyword names u ∷ ls) (relator_lines-append keyword names us vs)
+relator_lines-append keyword names (u ∷ us) vs =
+    ap (λ (ls : List (List ℕ)). relator_line keyword names u ∷ ls) (relator_lines-append keyword names us vs)
 
 endo_lines-map : (names : List (List ℕ)) (fs : List (List (List ℤ))) → endo_lines names fs ≡ map (endo_line names) fs
 endo_lines-map names [] = refl
 endo_lines-map names (f ∷ fs) = ap (λ (ls : List (List ℕ)). endo_line names f ∷ ls) (endo_lines-map names fs)
 
-endo_lines-append : (names : List (List ℕ)) (fs gs : List (List (List ℤ))) → endo_lines names (fs ++ gs) ≡ endo_lines names fs ++ endo_lines names gs
+endo_lines-append : (names : List (List ℕ)) (fs gs : List (List (List ℤ)))
+    → endo_lines names (fs ++ gs) ≡ endo_lines names fs ++ endo_lines names gs
 endo_lines-append names [] gs = refl
 endo_lines-append names (f ∷ fs) gs = ap (λ (ls : List (List ℕ)). endo_line names f ∷ ls) (endo_lines-append names fs gs)
 
@@ -107,23 +114,29 @@ module _ (L : LPresentation) (text : HasText L) where
   iterated_lines = relator_lines (codes "iterated ") L.names L.iterated
 
   next-fixed : (done : List (List ℤ)) (w : List ℤ)
-      → canonical_lines (with_parts L.names (done ++ w ∷ []) [] []) ≡ canonical_lines (with_parts L.names done [] []) ++ relator_line (codes "fixed ") L.names w ∷ []
+      → canonical_lines (with_parts L.names (done ++ w ∷ []) [] []) ≡ canonical_lines (with_parts L.names done [] [])
+      ++ relator_line (codes "fixed ") L.names w ∷ []
   next-fixed done w = ap (λ (ls : List (List ℕ)). generators_line L.names ∷ ls)
       (append-nil (relator_lines (codes "fixed ") L.names (done ++ w ∷ []))
       ∙ relator_lines-append (codes "fixed ") L.names done (w ∷ [])
-      ∙ ap (λ (ls : List (List ℕ)). ls ++ relator_line (codes "fixed ") L.names w ∷ []) (sym (append-nil (relator_lines (codes "fixed ") L.names done))))
+      ∙ ap (λ (ls : List (List ℕ)). ls ++ relator_line (codes "fixed ") L.names w ∷ [])
+      (sym (append-nil (relator_lines (codes "fixed ") L.names done))))
 
   next-iterated : (done : List (List ℤ)) (w : List ℤ)
-      → canonical_lines (with_parts L.names L.fixed (done ++ w ∷ []) []) ≡ canonical_lines (with_parts L.names L.fixed done []) ++ relator_line (codes "iterated ") L.names w ∷ []
+      → canonical_lines (with_parts L.names L.fixed (done ++ w ∷ []) []) ≡ canonical_lines (with_parts L.names L.fixed done [])
+      ++ relator_line (codes "iterated ") L.names w ∷ []
   next-iterated done w = ap (λ (ls : List (List ℕ)). generators_line L.names ∷ ls)
       (ap (λ (ls : List (List ℕ)). fixed_lines ++ ls)
       (append-nil (relator_lines (codes "iterated ") L.names (done ++ w ∷ []))
       ∙ relator_lines-append (codes "iterated ") L.names done (w ∷ [])
-      ∙ ap (λ (ls : List (List ℕ)). ls ++ relator_line (codes "iterated ") L.names w ∷ []) (sym (append-nil (relator_lines (codes "iterated ") L.names done))))
-      ∙ sym (append_assoc fixed_lines (relator_lines (codes "iterated ") L.names done ++ []) (relator_line (codes "iterated ") L.names w ∷ [])))
+      ∙ ap (λ (ls : List (List ℕ)). ls ++ relator_line (codes "iterated ") L.names w ∷ [])
+      (sym (append-nil (relator_lines (codes "iterated ") L.names done))))
+      ∙ sym (append_assoc fixed_lines (relator_lines (codes "iterated ") L.names done ++ [])
+      (relator_line (codes "iterated ") L.names w ∷ [])))
 
   next-endo : (done : List (List (List ℤ))) (f : List (List ℤ))
-      → canonical_lines (with_parts L.names L.fixed L.iterated (done ++ f ∷ [])) ≡ canonical_lines (with_parts L.names L.fixed L.iterated done) ++ endo_line L.names f ∷ []
+      → canonical_lines (with_parts L.names L.fixed L.iterated (done ++ f ∷ [])) ≡ canonical_lines
+      (with_parts L.names L.fixed L.iterated done) ++ endo_line L.names f ∷ []
   next-endo done f = ap (λ (ls : List (List ℕ)). generators_line L.names ∷ ls)
       (ap (λ (ls : List (List ℕ)). fixed_lines ++ (iterated_lines ++ ls)) (endo_lines-append L.names done (f ∷ []))
       ∙ simp append_assoc)
@@ -133,7 +146,8 @@ module _ (L : LPresentation) (text : HasText L) where
 
   fixed-texts : (front behind : List (List ℤ)) → front ++ behind ≡ [] ++ L.fixed → HasText (with_parts L.names front [] [])
   fixed-texts front behind e =
-      HasText-front L.names front behind [] L.iterated [] L.endos (subst (λ (ws : List (List ℤ)). HasText (with_parts L.names ws L.iterated L.endos)) (sym e) text)
+      HasText-front L.names front behind [] L.iterated [] L.endos
+      (subst (λ (ws : List (List ℤ)). HasText (with_parts L.names ws L.iterated L.endos)) (sym e) text)
 
   iterated-texts : (front behind : List (List ℤ)) → front ++ behind ≡ [] ++ L.iterated → HasText (with_parts L.names L.fixed front [])
   iterated-texts front behind e =
@@ -141,7 +155,8 @@ module _ (L : LPresentation) (text : HasText L) where
       (subst (λ (ws : List (List ℤ)). HasText (with_parts L.names ws (front ++ behind) L.endos)) (sym (append-nil L.fixed))
       (subst (λ (ws : List (List ℤ)). HasText (with_parts L.names L.fixed ws L.endos)) (sym e) text))
 
-  endo-texts : (front behind : List (List (List ℤ))) → front ++ behind ≡ [] ++ L.endos → HasText (with_parts L.names L.fixed L.iterated front)
+  endo-texts : (front behind : List (List (List ℤ))) → front ++ behind ≡ [] ++ L.endos
+      → HasText (with_parts L.names L.fixed L.iterated front)
   endo-texts front behind e =
       HasText-front L.names L.fixed [] L.iterated [] front behind
       (subst (λ (ws : List (List ℤ)). HasText (with_parts L.names ws (L.iterated ++ []) (front ++ behind))) (sym (append-nil L.fixed))
@@ -150,17 +165,26 @@ module _ (L : LPresentation) (text : HasText L) where
 
   pub presentation-leads : Leads Place HasForm for_generators (canonical_lines L) (in_presentation L)
   presentation-leads =
-      let fixed = items-lead (λ (ws : List (List ℤ)). with_parts L.names ws [] []) (relator_line (codes "fixed ") L.names) next-fixed [] L.fixed fixed-texts in
-      let iterated = items-lead (λ (ws : List (List ℤ)). with_parts L.names L.fixed ws []) (relator_line (codes "iterated ") L.names) next-iterated [] L.iterated iterated-texts in
-      let endos = items-lead (λ (fs : List (List (List ℤ))). with_parts L.names L.fixed L.iterated fs) (endo_line L.names) next-endo [] L.endos endo-texts in
-      let first : Leads Place HasForm (in_presentation (with_parts L.names [] [] [])) fixed_lines (in_presentation (with_parts L.names L.fixed [] [])) =
-      subst (λ (ls : List (List ℕ)). Leads Place HasForm (in_presentation (with_parts L.names [] [] [])) ls (in_presentation (with_parts L.names L.fixed [] [])))
+      let fixed = items-lead (λ (ws : List (List ℤ)). with_parts L.names ws [] []) (relator_line (codes "fixed ") L.names) next-fixed []
+      L.fixed fixed-texts in
+      let iterated = items-lead (λ (ws : List (List ℤ)). with_parts L.names L.fixed ws [])
+      (relator_line (codes "iterated ") L.names) next-iterated [] L.iterated iterated-texts in
+      let endos = items-lead (λ (fs : List (List (List ℤ))). with_parts L.names L.fixed L.iterated fs)
+      (endo_line L.names) next-endo [] L.endos endo-texts in
+      let first : Leads Place HasForm (in_presentation (with_parts L.names [] [] [])) fixed_lines
+      (in_presentation (with_parts L.names L.fixed [] [])) =
+      subst (λ (ls : List (List ℕ)). Leads Place HasForm (in_presentation (with_parts L.names [] [] [])) ls
+      (in_presentation (with_parts L.names L.fixed [] [])))
       (sym (relator_lines-map (codes "fixed ") L.names L.fixed)) fixed in
-      let second : Leads Place HasForm (in_presentation (with_parts L.names L.fixed [] [])) iterated_lines (in_presentation (with_parts L.names L.fixed L.iterated [])) =
-      subst (λ (ls : List (List ℕ)). Leads Place HasForm (in_presentation (with_parts L.names L.fixed [] [])) ls (in_presentation (with_parts L.names L.fixed L.iterated [])))
+      let second : Leads Place HasForm (in_presentation (with_parts L.names L.fixed [] [])) iterated_lines
+      (in_presentation (with_parts L.names L.fixed L.iterated [])) =
+      subst (λ (ls : List (List ℕ)). Leads Place HasForm (in_presentation (with_parts L.names L.fixed [] [])) ls
+      (in_presentation (with_parts L.names L.fixed L.iterated [])))
       (sym (relator_lines-map (codes "iterated ") L.names L.iterated)) iterated in
-      let third : Leads Place HasForm (in_presentation (with_parts L.names L.fixed L.iterated [])) (endo_lines L.names L.endos) (in_presentation L) =
-      subst (λ (ls : List (List ℕ)). Leads Place HasForm (in_presentation (with_parts L.names L.fixed L.iterated [])) ls (in_presentation L))
+      let third : Leads Place HasForm (in_presentation (with_parts L.names L.fixed L.iterated [])) (endo_lines L.names L.endos)
+      (in_presentation L) =
+      subst (λ (ls : List (List ℕ)). Leads Place HasForm (in_presentation (with_parts L.names L.fixed L.iterated [])) ls
+      (in_presentation L))
       (sym (endo_lines-map L.names L.endos)) endos in (
         in_presentation (with_parts L.names [] [] []),
         generators (with_parts L.names [] [] []) (generators_line L.names) bare-text refl,

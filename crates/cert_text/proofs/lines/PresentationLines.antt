@@ -6,7 +6,8 @@ use Rattle.std.specs.List.{AllByRecursion}
 use Rattle.std.proofs.lemmas.List.Elements.{All-head, All-tail}
 use Rattle.pq_base.specs.LPresentation.{LPresentation, AreWords, AreEndos}
 use Rattle.pq_base.specs.Name.{IsName}
-use Rattle.lpres_reader.specs.CanonicalText.{word_text, generators_line, relator_lines, endo_line, endo_lines, canonical_lines, canonical_text, text_of_lines}
+use Rattle.lpres_reader.specs.CanonicalText.{word_text, generators_line, relator_lines, endo_line, endo_lines, canonical_lines}
+use Rattle.lpres_reader.specs.CanonicalText.{canonical_text, text_of_lines}
 use Rattle.lpres_reader.specs.Limits.{AreShort}
 use Rattle.lpres_reader.specs.Reads.{Reads}
 use Rattle.lpres_reader.specs.Tokens.{Token}
@@ -56,7 +57,8 @@ relators-one_line names keyword form one (w ∷ ws) h short = (
   relators-one_line names keyword form one ws h.1 (All-tail (λ v. length v ≤ 65536) w ws short),
 )
 
-endos-one_line : (names : List (List ℕ)) → All IsName names → 1 ≤ length names → (fs : List (List (List ℤ))) → AreEndos (length names) fs → All AreShort fs
+endos-one_line : (names : List (List ℕ)) → All IsName names → 1 ≤ length names → (fs : List (List (List ℤ))) → AreEndos (length names) fs
+    → All AreShort fs
     → AllByRecursion IsOneLine (endo_lines names fs)
 endos-one_line names are some [] h short = tt
 endos-one_line names are some (f ∷ fs) h short = (
@@ -67,21 +69,26 @@ endos-one_line names are some (f ∷ fs) h short = (
 pub lines-one_line : (L : LPresentation) → HasText L → AllByRecursion IsOneLine (canonical_lines L)
 lines-one_line L a = (
   written-avoids _ (generators_line L.names) (generators-written L.names a.names a.limits.some_generator),
-  each-append IsOneLine (relator_lines (codes "fixed ") L.names L.fixed) (relator_lines (codes "iterated ") L.names L.iterated ++ endo_lines L.names L.endos)
-      (relators-one_line L.names (codes "fixed ") _ (λ w short h. fixed-written L.names a.names w h.0 short) L.fixed a.presentation.fixed_words a.limits.fixed_letters)
+  each-append IsOneLine (relator_lines (codes "fixed ") L.names L.fixed)
+      (relator_lines (codes "iterated ") L.names L.iterated ++ endo_lines L.names L.endos)
+      (relators-one_line L.names (codes "fixed ") _ (λ w short h. fixed-written L.names a.names w h.0 short) L.fixed
+      a.presentation.fixed_words a.limits.fixed_letters)
       (each-append IsOneLine (relator_lines (codes "iterated ") L.names L.iterated) (endo_lines L.names L.endos)
-      (relators-one_line L.names (codes "iterated ") _ (λ w short h. iterated-written L.names a.names w h.0 short) L.iterated a.presentation.iterated_words a.limits.iterated_letters)
+      (relators-one_line L.names (codes "iterated ") _ (λ w short h. iterated-written L.names a.names w h.0 short) L.iterated
+      a.presentation.iterated_words a.limits.iterated_letters)
       (endos-one_line L.names a.names a.limits.some_generator L.endos a.presentation.endo_words a.limits.endo_letters)),
 )
 
 -- the last line of a presentation
-pub avoids-item : (L : LPresentation) (before : List (List ℕ)) (line : List ℕ) → HasText L → canonical_lines L ≡ before ++ line ∷ [] → avoids 10 line ≡ true
+pub avoids-item : (L : LPresentation) (before : List (List ℕ)) (line : List ℕ) → HasText L → canonical_lines L ≡ before ++ line ∷ []
+    → avoids 10 line ≡ true
 avoids-item L before line a e = each-last IsOneLine before line (subst (AllByRecursion IsOneLine) e (lines-one_line L a))
 
 abbrev NoPrime : List ℕ → Type 0
 NoPrime line = begins_with_p line ≡ false
 
-relators-no_prime : (names : List (List ℕ)) (byte : ℕ) (keyword : List ℕ) → eqb byte 112 ≡ false → (ws : List (List ℤ)) → AllByRecursion NoPrime (relator_lines (byte ∷ keyword) names ws)
+relators-no_prime : (names : List (List ℕ)) (byte : ℕ) (keyword : List ℕ) → eqb byte 112 ≡ false → (ws : List (List ℤ))
+    → AllByRecursion NoPrime (relator_lines (byte ∷ keyword) names ws)
 relators-no_prime names byte keyword other [] = tt
 relators-no_prime names byte keyword other (w ∷ ws) = (other, relators-no_prime names byte keyword other ws)
 
@@ -89,12 +96,14 @@ endos-no_prime : (names : List (List ℕ)) (fs : List (List (List ℤ))) → All
 endos-no_prime names [] = tt
 endos-no_prime names (f ∷ fs) = (refl, endos-no_prime names fs)
 
-pub no_prime-item : (L : LPresentation) (before : List (List ℕ)) (line : List ℕ) → canonical_lines L ≡ before ++ line ∷ [] → begins_with_p line ≡ false
+pub no_prime-item : (L : LPresentation) (before : List (List ℕ)) (line : List ℕ) → canonical_lines L ≡ before ++ line ∷ []
+    → begins_with_p line ≡ false
 no_prime-item L before line e = each-last NoPrime before line (subst (AllByRecursion NoPrime) e all) where
   all : AllByRecursion NoPrime (canonical_lines L)
   all = (
     refl,
-    each-append NoPrime (relator_lines (codes "fixed ") L.names L.fixed) (relator_lines (codes "iterated ") L.names L.iterated ++ endo_lines L.names L.endos)
+    each-append NoPrime (relator_lines (codes "fixed ") L.names L.fixed)
+        (relator_lines (codes "iterated ") L.names L.iterated ++ endo_lines L.names L.endos)
         (relators-no_prime L.names 102 (codes "ixed ") refl L.fixed)
         (each-append NoPrime (relator_lines (codes "iterated ") L.names L.iterated) (endo_lines L.names L.endos)
         (relators-no_prime L.names 105 (codes "terated ") refl L.iterated) (endos-no_prime L.names L.endos)),

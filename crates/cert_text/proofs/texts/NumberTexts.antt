@@ -1,5 +1,6 @@
 -- Decimal numbers are told apart by what no digit follows, and so are lists of them.
-use Rattle.std.proofs.Common.{◌≡◌, ◌<◌, ◌+◌, ◌%◌, ◌/◌, ℕ, zero, suc, Bool, true, false, List, [], ◌∷◌, ◌++◌, drop, decimal, refl, ap, ap₂, sym, subst, ◌∙◌, arith}
+use Rattle.std.proofs.Common.{◌≡◌, ◌<◌, ◌+◌, ◌%◌, ◌/◌, ℕ, zero, suc, Bool, true, false, List, [], ◌∷◌, ◌++◌, drop, decimal, refl, ap, ap₂}
+use Rattle.std.proofs.Common.{sym, subst, ◌∙◌, arith}
 use Rattle.std.specs.Prelude.{◌==◌, if◌then◌else◌}
 use Rattle.std.proofs.lemmas.Bool.{le-leb, lt-ltb}
 use Rattle.std.proofs.lemmas.Fmt.{decimal_injective}
@@ -14,7 +15,8 @@ module _ {X : Type 0} (test : X → Bool) where
   no_start : (y : X) (ys us : List X) → test y ≡ false → StartsWell test us → us ≡ y ∷ ys → ⊥
   no_start y ys us fails starts e = let bad : true ≡ false = sym (subst (StartsWell test) e starts) ∙ fails in cc
 
-  pub cut-same : (xs ys us vs : List X) → AllFail test xs → AllFail test ys → StartsWell test us → StartsWell test vs → xs ++ us ≡ ys ++ vs → (xs ≡ ys) × (us ≡ vs)
+  pub cut-same : (xs ys us vs : List X) → AllFail test xs → AllFail test ys → StartsWell test us → StartsWell test vs → xs ++ us ≡ ys ++ vs
+      → (xs ≡ ys) × (us ≡ vs)
   cut-same [] [] us vs a b s t e = (refl, e)
   cut-same [] (y ∷ ys) us vs a b s t e = absurd (no_start y (ys ++ vs) us b.0 s e)
   cut-same (x ∷ xs) [] us vs a b s t e = absurd (no_start x (xs ++ us) vs a.0 t (sym e))
@@ -74,7 +76,8 @@ numbers_text-same [] [] a b e = refl
 numbers_text-same [] (n ∷ ns) a b e = cc
 numbers_text-same (m ∷ ms) [] a b e = cc
 numbers_text-same (m ∷ ms) (n ∷ ns) a b e =
-    let parts = decimal-told m n (numbers_text ms) (numbers_text ns) a.0 b.0 (numbers-start ms) (numbers-start ns) (ap (λ (t : List ℕ). drop 1 t) e) in
+    let parts = decimal-told m n (numbers_text ms) (numbers_text ns) a.0 b.0 (numbers-start ms) (numbers-start ns)
+    (ap (λ (t : List ℕ). drop 1 t) e) in
     ap₂ (λ (x : ℕ) (xs : List ℕ). x ∷ xs) parts.0 (numbers_text-same ms ns a.1 b.1 parts.1)
 
 pub avoids-numbers : (ns : List ℕ) → avoids 10 (numbers_text ns) ≡ true

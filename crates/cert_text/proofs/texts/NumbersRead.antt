@@ -1,5 +1,6 @@
 -- A number is read from its digits, and from no others.
-use Rattle.std.proofs.Common.{◌≡◌, ◌<◌, ◌≤◌, ◌+◌, ◌-◌, ◌*◌, ℕ, zero, suc, Bool, true, false, ◌&&◌, List, [], ◌∷◌, ◌++◌, get_or, drop, take, length, decimal, refl, ap, sym, subst, ◌∙◌, rules, drop-cons, append_assoc, append-nil, arith}
+use Rattle.std.proofs.Common.{◌≡◌, ◌<◌, ◌≤◌, ◌+◌, ◌-◌, ◌*◌, ℕ, zero, suc, Bool, true, false, ◌&&◌, List, [], ◌∷◌, ◌++◌, get_or, drop, take}
+use Rattle.std.proofs.Common.{length, decimal, refl, ap, sym, subst, ◌∙◌, rules, drop-cons, append_assoc, append-nil, arith}
 use Rattle.std.specs.Prelude.{not, ◌==◌, if◌then◌else◌}
 use Rattle.std.specs.List.{prefix_len}
 use Rattle.std.specs.Str.{all_ascii_digits}
@@ -42,7 +43,8 @@ pub decimal-read : (ds : List ℕ) (n : ℕ) → AllFail is_no_digit ds → is_p
 decimal-read [] n h plain e small = cc
 decimal-read (d ∷ ds) n h plain e small =
     let first : d ≡ 48 → length (d ∷ ds) ≡ 1 = single d ds plain in
-    let same : decimal (read_on 0 (d ∷ ds)) ≡ d ∷ ds = decimal-digits_value own (d ∷ ds) (digits-ascii (d ∷ ds) h) (omega arith) first (omega arith) in
+    let same : decimal (read_on 0 (d ∷ ds)) ≡ d ∷ ds = decimal-digits_value own (d ∷ ds) (digits-ascii (d ∷ ds) h) (omega arith) first
+    (omega arith) in
     sym same ∙ ap (λ (x : ℕ). decimal x) e
 
 pub read-decimal : (n : ℕ) → n < 65536 → read_on 0 (decimal n) ≡ n
@@ -50,10 +52,11 @@ read-decimal n h = digits_value-decimal own n (omega arith)
 
 pub not-padded : (n : ℕ) → n < 65536 → is_padded (decimal n) ≡ false
 not-padded zero h = ap is_padded (decimal_digit 0 (omega arith))
-not-padded (suc m) h = by (decimal (suc m)) (decimal_nonempty (suc m) (omega arith)) (first_decimal (suc m) (omega arith) (omega arith)) where
-  by : (ds : List ℕ) → 0 < length ds → 48 < get_or ds 0 0 → is_padded ds ≡ false
-  by [] some first = absurd (omega arith)
-  by (d ∷ ds) some first = ap (λ (b : Bool). b && not (length ds == 0)) (ne_eqb d 48 (λ e. omega arith))
+not-padded (suc m) h =
+    by (decimal (suc m)) (decimal_nonempty (suc m) (omega arith)) (first_decimal (suc m) (omega arith) (omega arith)) where
+      by : (ds : List ℕ) → 0 < length ds → 48 < get_or ds 0 0 → is_padded ds ≡ false
+      by [] some first = absurd (omega arith)
+      by (d ∷ ds) some first = ap (λ (b : Bool). b && not (length ds == 0)) (ne_eqb d 48 (λ e. omega arith))
 
 pub too_large : (n v i : ℕ) (ds : List ℕ) → n < 65536 → ds ≡ decimal n → 65535 < v → read_on v (drop (i + 1) ds) ≡ read_on 0 ds → ⊥
 too_large n v i ds small e large so_far =
@@ -61,7 +64,8 @@ too_large n v i ds small e large so_far =
     let grows : v ≤ read_on v (drop (i + 1) ds) = read_on-grows v (drop (i + 1) ds) in
     omega arith
 
-pub read-next : (v w i : ℕ) (ds : List ℕ) → i < length ds → w ≡ 10 * v + (get_or ds i 0 - 48) → read_on v (drop i ds) ≡ read_on 0 ds → read_on w (drop (i + 1) ds) ≡ read_on 0 ds
+pub read-next : (v w i : ℕ) (ds : List ℕ) → i < length ds → w ≡ 10 * v + (get_or ds i 0 - 48) → read_on v (drop i ds) ≡ read_on 0 ds
+    → read_on w (drop (i + 1) ds) ≡ read_on 0 ds
 read-next v w i ds inside e so_far =
     let next : i + 1 ≡ suc i = omega arith in
     ap (λ (k : ℕ). read_on k (drop (i + 1) ds)) e ∙ ap (λ (k : ℕ). read_on (10 * v + (get_or ds i 0 - 48)) (drop k ds)) next
@@ -69,55 +73,65 @@ read-next v w i ds inside e so_far =
 
 pub front-digits : (t : List ℕ) → AllFail is_no_digit (take (prefix_len is_digit t) t)
 front-digits [] = tt
-front-digits (b ∷ t) = elim (is_digit b) as (λ (d : Bool). is_digit b ≡ d → AllFail is_no_digit (take (if d then 1 + prefix_len is_digit t else 0) (b ∷ t))) [
-  | true ↦ λ e.
-      let same : suc (prefix_len is_digit t) ≡ 1 + prefix_len is_digit t = omega arith in
-      subst (λ (n : ℕ). AllFail is_no_digit (take n (b ∷ t))) same (ap not e, front-digits t)
-  | false ↦ λ e. tt
-] refl
+front-digits (b ∷ t) =
+    elim (is_digit b) as (λ (d : Bool). is_digit b ≡ d → AllFail is_no_digit (take (if d then 1 + prefix_len is_digit t else 0) (b ∷ t))) [
+      | true ↦ λ e.
+          let same : suc (prefix_len is_digit t) ≡ 1 + prefix_len is_digit t = omega arith in
+          subst (λ (n : ℕ). AllFail is_no_digit (take n (b ∷ t))) same (ap not e, front-digits t)
+      | false ↦ λ e. tt
+    ] refl
 
 pub front-stops : (t : List ℕ) → StartsWell is_no_digit (drop (prefix_len is_digit t) t)
 front-stops [] = tt
-front-stops (b ∷ t) = elim (is_digit b) as (λ (d : Bool). is_digit b ≡ d → StartsWell is_no_digit (drop (if d then 1 + prefix_len is_digit t else 0) (b ∷ t))) [
-  | true ↦ λ e.
-      let same : suc (prefix_len is_digit t) ≡ 1 + prefix_len is_digit t = omega arith in
-      subst (λ (n : ℕ). StartsWell is_no_digit (drop n (b ∷ t))) same (front-stops t)
-  | false ↦ λ e. ap not e
-] refl
+front-stops (b ∷ t) = elim (is_digit b) as (λ (d : Bool). is_digit b ≡ d
+    → StartsWell is_no_digit (drop (if d then 1 + prefix_len is_digit t else 0) (b ∷ t))) [
+      | true ↦ λ e.
+          let same : suc (prefix_len is_digit t) ≡ 1 + prefix_len is_digit t = omega arith in
+          subst (λ (n : ℕ). StartsWell is_no_digit (drop n (b ∷ t))) same (front-stops t)
+      | false ↦ λ e. ap not e
+    ] refl
 
 -- a text without a number at its front
-pub no-front : (text digits rest : List ℕ) → text ≡ digits ++ rest → AllFail is_no_digit digits → StartsWell is_no_digit rest → ((n : ℕ) → n < 65536 → ¬ (digits ≡ decimal n))
+pub no-front : (text digits rest : List ℕ) → text ≡ digits ++ rest → AllFail is_no_digit digits → StartsWell is_no_digit rest
+    → ((n : ℕ) → n < 65536 → ¬ (digits ≡ decimal n))
     → (n : ℕ) (more : List ℕ) → n < 65536 → StartsWell is_no_digit more → ¬ (text ≡ decimal n ++ more)
 no-front text digits rest e all stops none n more small starts h =
     none n small (cut-same is_no_digit digits (decimal n) rest more all (AllFail-decimal n) stops starts (sym e ∙ h)).0
 
 -- the numbers of a text, each behind a blank, where the rest of it is one of numbers
 abbrev pub LeavesNumbers : List ℕ → List ℕ → Type 0
-LeavesNumbers text rest = (ns : List ℕ) → AllBelow 65536 ns → text ≡ numbers_text ns → (ks : List ℕ) × AllBelow 65536 ks × (rest ≡ numbers_text ks)
+LeavesNumbers text rest = (ns : List ℕ) → AllBelow 65536 ns → text ≡ numbers_text ns → (ks : List ℕ) × AllBelow 65536 ks
+    × (rest ≡ numbers_text ks)
 
-pub LeavesNumbers-next : (text rest more : List ℕ) (n : ℕ) → n < 65536 → StartsWell is_no_digit more → rest ≡ 32 ∷ (decimal n ++ more) → LeavesNumbers text rest → LeavesNumbers text more
-LeavesNumbers-next text rest more n small starts e leaves ns below same = by (leaves ns below same).0 (leaves ns below same).1 (leaves ns below same).2 where
-  by : (ks : List ℕ) → AllBelow 65536 ks → rest ≡ numbers_text ks → (ls : List ℕ) × AllBelow 65536 ls × (more ≡ numbers_text ls)
-  by [] b f = let bad : 32 ∷ (decimal n ++ more) ≡ [] = sym e ∙ f in cc
-  by (k ∷ ks) b f =
-      let parts = decimal-told n k more (numbers_text ks) small b.0 starts (numbers-start ks) (ap (λ (t : List ℕ). drop 1 t) (sym e ∙ f)) in
-      (ks, b.1, parts.1)
+pub LeavesNumbers-next : (text rest more : List ℕ) (n : ℕ) → n < 65536 → StartsWell is_no_digit more → rest ≡ 32 ∷ (decimal n ++ more)
+    → LeavesNumbers text rest → LeavesNumbers text more
+LeavesNumbers-next text rest more n small starts e leaves ns below same =
+    by (leaves ns below same).0 (leaves ns below same).1 (leaves ns below same).2 where
+      by : (ks : List ℕ) → AllBelow 65536 ks → rest ≡ numbers_text ks → (ls : List ℕ) × AllBelow 65536 ls × (more ≡ numbers_text ls)
+      by [] b f = let bad : 32 ∷ (decimal n ++ more) ≡ [] = sym e ∙ f in cc
+      by (k ∷ ks) b f =
+          let parts = decimal-told n k more (numbers_text ks) small b.0 starts (numbers-start ks)
+          (ap (λ (t : List ℕ). drop 1 t) (sym e ∙ f)) in
+          (ks, b.1, parts.1)
 
 pub LeavesNumbers-none : (text rest : List ℕ) → LeavesNumbers text rest → (rest ≡ [] → ⊥)
     → ((n : ℕ) (more : List ℕ) → n < 65536 → StartsWell is_no_digit more → ¬ (rest ≡ 32 ∷ (decimal n ++ more)))
     → (ns : List ℕ) → AllBelow 65536 ns → ¬ (text ≡ numbers_text ns)
-LeavesNumbers-none text rest leaves some none ns below same = by (leaves ns below same).0 (leaves ns below same).1 (leaves ns below same).2 where
-  by : (ks : List ℕ) → AllBelow 65536 ks → rest ≡ numbers_text ks → ⊥
-  by [] b f = some f
-  by (k ∷ ks) b f = none k (numbers_text ks) b.0 (numbers-start ks) f
+LeavesNumbers-none text rest leaves some none ns below same =
+    by (leaves ns below same).0 (leaves ns below same).1 (leaves ns below same).2 where
+      by : (ks : List ℕ) → AllBelow 65536 ks → rest ≡ numbers_text ks → ⊥
+      by [] b f = some f
+      by (k ∷ ks) b f = none k (numbers_text ks) b.0 (numbers-start ks) f
 
 pub numbers_text-append : (ms ns : List ℕ) → numbers_text (ms ++ ns) ≡ numbers_text ms ++ numbers_text ns
 numbers_text-append [] ns = refl
 numbers_text-append (m ∷ ms) ns =
-    ap (λ (t : List ℕ). 32 ∷ (decimal m ++ t)) (numbers_text-append ms ns) ∙ ap (λ (t : List ℕ). 32 ∷ t) (sym (append_assoc (decimal m) (numbers_text ms) (numbers_text ns)))
+    ap (λ (t : List ℕ). 32 ∷ (decimal m ++ t)) (numbers_text-append ms ns)
+    ∙ ap (λ (t : List ℕ). 32 ∷ t) (sym (append_assoc (decimal m) (numbers_text ms) (numbers_text ns)))
 
 -- one number more was read
-pub numbers_text-next : (all rest more : List ℕ) (ns ms : List ℕ) (n : ℕ) → ms ≡ ns ++ n ∷ [] → rest ≡ 32 ∷ (decimal n ++ more) → numbers_text ns ++ rest ≡ all → numbers_text ms ++ more ≡ all
+pub numbers_text-next : (all rest more : List ℕ) (ns ms : List ℕ) (n : ℕ) → ms ≡ ns ++ n ∷ [] → rest ≡ 32 ∷ (decimal n ++ more)
+    → numbers_text ns ++ rest ≡ all → numbers_text ms ++ more ≡ all
 numbers_text-next all rest more ns ms n pushed e so_far =
     ap (λ (ks : List ℕ). numbers_text ks ++ more) pushed ∙ ap (λ (t : List ℕ). t ++ more) (numbers_text-append ns (n ∷ []))
     ∙ append_assoc (numbers_text ns) (numbers_text (n ∷ [])) more

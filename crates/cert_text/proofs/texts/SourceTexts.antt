@@ -1,5 +1,6 @@
 -- The text of a source tells the source, and is one line.
-use Rattle.std.proofs.Common.{◌≡◌, ◌<◌, ◌≤◌, ℕ, Bool, true, false, ◌&&◌, ◌||◌, List, [], ◌∷◌, ◌++◌, get_or, drop, length, decimal, refl, ap, ap₂, sym, ◌∙◌, append-nil, arith}
+use Rattle.std.proofs.Common.{◌≡◌, ◌<◌, ◌≤◌, ℕ, Bool, true, false, ◌&&◌, ◌||◌, List, [], ◌∷◌, ◌++◌, get_or, drop, length, decimal, refl, ap}
+use Rattle.std.proofs.Common.{ap₂, sym, ◌∙◌, append-nil, arith}
 use Rattle.std.specs.Prelude.{leb, eqb}
 use Rattle.std.proofs.lemmas.Bool.{leb-true, and_parts}
 use Rattle.pq_base.specs.Table.{AllBelow}
@@ -51,10 +52,12 @@ entry : (n : ℕ) (xs ys : List ℕ) → xs ≡ ys → get_or xs n 0 ≡ get_or 
 entry n xs ys e = ap (λ (l : List ℕ). get_or l n 0) e
 
 -- behind keywords of some length, the numbers are the same
-behind : (k : ℕ) (xs ys ms ns : List ℕ) → drop k xs ≡ numbers_text ms → drop k ys ≡ numbers_text ns → AllBelow greatest ms → AllBelow greatest ns → xs ≡ ys → ms ≡ ns
+behind : (k : ℕ) (xs ys ms ns : List ℕ) → drop k xs ≡ numbers_text ms → drop k ys ≡ numbers_text ns → AllBelow greatest ms
+    → AllBelow greatest ns → xs ≡ ys → ms ≡ ns
 behind k xs ys ms ns f g a b e = numbers_text-same ms ns a b (sym f ∙ ap (λ (t : List ℕ). drop k t) e ∙ g)
 
-overlap_text-same : (o q : Overlap) → AllBelow greatest (overlap_numbers o) → AllBelow greatest (overlap_numbers q) → overlap_text o ≡ overlap_text q → o ≡ q
+overlap_text-same : (o q : Overlap) → AllBelow greatest (overlap_numbers o) → AllBelow greatest (overlap_numbers q)
+    → overlap_text o ≡ overlap_text q → o ≡ q
 overlap_text-same (Triple k j i) (Triple c b a) h g e =
     let same : k ∷ j ∷ i ∷ [] ≡ c ∷ b ∷ a ∷ [] = behind 6 _ _ (k ∷ j ∷ i ∷ []) (c ∷ b ∷ a ∷ []) refl refl h g e in
     ap (λ (ns : List ℕ). Triple (get_or ns 0 0) (get_or ns 1 0) (get_or ns 2 0)) same
@@ -109,10 +112,12 @@ IsWrittenSource-in L r (Iterated i s) limits h =
 
 pub source_text-same : (a b : RowSource) → IsWrittenSource a → IsWrittenSource b → source_text a ≡ source_text b → a ≡ b
 source_text-same (Test o) (Test q) h g e = ap (λ (x : Overlap). Test x) (overlap_text-same o q h g e)
-source_text-same (Fixed i) (Fixed j) h g e = ap (λ (ns : List ℕ). Fixed (get_or ns 0 0)) (behind 5 _ _ (i ∷ []) (j ∷ []) refl refl (h, tt) (g, tt) e)
+source_text-same (Fixed i) (Fixed j) h g e =
+    ap (λ (ns : List ℕ). Fixed (get_or ns 0 0)) (behind 5 _ _ (i ∷ []) (j ∷ []) refl refl (h, tt) (g, tt) e)
 source_text-same (Iterated i s) (Iterated j t) h g e =
     let shifted : decimal i ++ along_text s ≡ decimal j ++ along_text t =
-    ap (λ (x : List ℕ). x ++ along_text s) (sym (append-nil (decimal i))) ∙ ap (λ (x : List ℕ). drop 9 x) e ∙ ap (λ (x : List ℕ). x ++ along_text t) (append-nil (decimal j)) in
+    ap (λ (x : List ℕ). x ++ along_text s) (sym (append-nil (decimal i))) ∙ ap (λ (x : List ℕ). drop 9 x) e
+    ∙ ap (λ (x : List ℕ). x ++ along_text t) (append-nil (decimal j)) in
     let parts = decimal-told i j (along_text s) (along_text t) h.0 g.0 (along-start s) (along-start t) shifted in
     ap₂ (λ (n : ℕ) (p : List ℕ). Iterated n p) parts.0 (along_text-same s t (AllBelow-wider s h.1) (AllBelow-wider t g.1) parts.1)
 source_text-same (Test o) (Fixed j) h g e = absurd (overlap-apart o 102 _ refl e)

@@ -15,12 +15,14 @@ use Rattle.cert_text.proofs.texts.NumberTexts.{decimal-told}
 use Rattle.cert_text.proofs.texts.SourceTexts.{IsWrittenSource, IsWrittenSource-in, source_line-same, overlap-apart, along-start}
 
 -- nothing follows the number of a fixed relator
-pub fixed-read : (text rest : List ℕ) (n i : ℕ) → text ≡ 32 ∷ (decimal n ++ rest) → n < 65536 → StartsWell is_no_digit rest → i < 65536 → text ≡ numbers_text (i ∷ []) → rest ≡ []
+pub fixed-read : (text rest : List ℕ) (n i : ℕ) → text ≡ 32 ∷ (decimal n ++ rest) → n < 65536 → StartsWell is_no_digit rest → i < 65536
+    → text ≡ numbers_text (i ∷ []) → rest ≡ []
 fixed-read text rest n i e small stops h same =
     (decimal-told n i rest [] small h stops tt (ap (λ (t : List ℕ). drop 1 t) (sym e ∙ same))).1
 
 -- a path follows that of an iterated one
-pub iterated-read : (text rest : List ℕ) (n i : ℕ) (s : List ℕ) → text ≡ 32 ∷ (decimal n ++ rest) → n < 65536 → StartsWell is_no_digit rest → i < 65536
+pub iterated-read : (text rest : List ℕ) (n i : ℕ) (s : List ℕ) → text ≡ 32 ∷ (decimal n ++ rest) → n < 65536
+    → StartsWell is_no_digit rest → i < 65536
     → text ≡ numbers_text (i ∷ []) ++ along_text s → rest ≡ along_text s
 iterated-read text rest n i s e small stops h same =
     (decimal-told n i rest (along_text s) small h stops (along-start s)
@@ -36,6 +38,8 @@ module _ (L : LPresentation) (run : Run) (a : RowSource) (limits : IsWithinLimit
     by (Iterated i s) w e = none i s w.0 w.1 (ap (λ (t : List ℕ). drop 8 t) (sym cut ∙ e))
 
   -- a source that was read is the one of the line
-  pub named-read : (line text : List ℕ) (b : RowSource) → line ≡ codes "source " ++ text → text ≡ source_text b → IsWrittenSource b → line ≡ source_line a → b ≡ a
+  pub named-read : (line text : List ℕ) (b : RowSource) → line ≡ codes "source " ++ text → text ≡ source_text b → IsWrittenSource b
+      → line ≡ source_line a → b ≡ a
   named-read line text b cut read written e =
-      source_line-same b a written (IsWrittenSource-in L run a limits named) (ap (λ (t : List ℕ). codes "source " ++ t) (sym read) ∙ sym cut ∙ e)
+      source_line-same b a written (IsWrittenSource-in L run a limits named)
+      (ap (λ (t : List ℕ). codes "source " ++ t) (sym read) ∙ sym cut ∙ e)

@@ -1,12 +1,14 @@
 -- The line of a tail tells what it says, and is one line.
-use Rattle.std.proofs.Common.{◌≡◌, ◌<◌, ℕ, suc, true, ◌&&◌, List, [], ◌∷◌, ◌++◌, drop, length, decimal, refl, ap, ap₂, sym, ◌∙◌, append_assoc, arith}
+use Rattle.std.proofs.Common.{◌≡◌, ◌<◌, ℕ, suc, true, ◌&&◌, List, [], ◌∷◌, ◌++◌, drop, length, decimal, refl, ap, ap₂, sym, ◌∙◌}
+use Rattle.std.proofs.Common.{append_assoc, arith}
 use Rattle.std.specs.Prelude.{leb, ltb, codes}
 use Rattle.std.proofs.lemmas.Bool.{ltb-true, and_parts}
 use Rattle.derivation_log.specs.Certificates.{TailLine}
 use Rattle.derivation_log.specs.CertificateForms.{is_number_from, are_pairs, are_at_most, are_kept_below, is_tail_line}
 use Rattle.answer_text.proofs.Splits.{first-apart, avoids, avoids-append}
 use Rattle.cert_text.specs.CertificateText.{pair_text, further_pairs_text, pairs_text, kept_text, tail_line}
-use Rattle.cert_text.proofs.texts.NumberTexts.{greatest, StartsWell, is_no_digit, cut-same, AllFail-decimal, decimal-told, no-number, avoids-any_decimal}
+use Rattle.cert_text.proofs.texts.NumberTexts.{greatest, StartsWell, is_no_digit, cut-same, AllFail-decimal, decimal-told, no-number}
+use Rattle.cert_text.proofs.texts.NumberTexts.{avoids-any_decimal}
 use Rattle.cert_text.proofs.texts.SourceTexts.{number-below}
 
 -- a pair that a text can hold
@@ -61,8 +63,10 @@ further_pairs-same (a ∷ xs) [] x y h g e =
     absurd (first-apart 98 58 _ _ refl (no-pair a (codes "by " ++ y) (further_pairs_text xs ++ by_sums x) refl behind))
 further_pairs-same (a ∷ xs) (b ∷ ys) x y h g e =
     let whole : pair_text a ++ (further_pairs_text xs ++ by_sums x) ≡ pair_text b ++ (further_pairs_text ys ++ by_sums y) =
-    sym (append_assoc (pair_text a) (further_pairs_text xs) (by_sums x)) ∙ ap (λ (t : List ℕ). drop 1 t) e ∙ append_assoc (pair_text b) (further_pairs_text ys) (by_sums y) in
-    let first = pair-told a b (further_pairs_text xs ++ by_sums x) (further_pairs_text ys ++ by_sums y) h.0 g.0 (further-start xs x) (further-start ys y) whole in
+    sym (append_assoc (pair_text a) (further_pairs_text xs) (by_sums x)) ∙ ap (λ (t : List ℕ). drop 1 t) e
+    ∙ append_assoc (pair_text b) (further_pairs_text ys) (by_sums y) in
+    let first = pair-told a b (further_pairs_text xs ++ by_sums x) (further_pairs_text ys ++ by_sums y) h.0 g.0 (further-start xs x)
+    (further-start ys y) whole in
     let more = further_pairs-same xs ys x y h.1 g.1 first.1 in
     (ap₂ (λ (c : ℕ × ℕ) (cs : List (ℕ × ℕ)). c ∷ cs) first.0 more.0, more.1)
 
@@ -71,8 +75,10 @@ pairs-same : (a b : ℕ × ℕ) (xs ys : List (ℕ × ℕ)) (x y : List ℕ) →
     → pairs_text (a ∷ xs) ++ by_sums x ≡ pairs_text (b ∷ ys) ++ by_sums y → (a ∷ xs ≡ b ∷ ys) × (x ≡ y)
 pairs-same a b xs ys x y h g e =
     let whole : pair_text a ++ (further_pairs_text xs ++ by_sums x) ≡ pair_text b ++ (further_pairs_text ys ++ by_sums y) =
-    sym (append_assoc (pair_text a) (further_pairs_text xs) (by_sums x)) ∙ e ∙ append_assoc (pair_text b) (further_pairs_text ys) (by_sums y) in
-    let first = pair-told a b (further_pairs_text xs ++ by_sums x) (further_pairs_text ys ++ by_sums y) h.0 g.0 (further-start xs x) (further-start ys y) whole in
+    sym (append_assoc (pair_text a) (further_pairs_text xs) (by_sums x)) ∙ e ∙ append_assoc (pair_text b) (further_pairs_text ys)
+    (by_sums y) in
+    let first = pair-told a b (further_pairs_text xs ++ by_sums x) (further_pairs_text ys ++ by_sums y) h.0 g.0 (further-start xs x)
+    (further-start ys y) whole in
     let more = further_pairs-same xs ys x y h.1 g.1 first.1 in
     (ap₂ (λ (c : ℕ × ℕ) (cs : List (ℕ × ℕ)). c ∷ cs) first.0 more.0, more.1)
 
@@ -80,15 +86,18 @@ pairs-same a b xs ys x y h g e =
 pub no-zero : (a : ℕ × ℕ) (us vs : List ℕ) → codes "0 " ++ us ≡ pair_text a ++ vs → ⊥
 no-zero a us vs e =
     let whole : codes "0 " ++ us ≡ decimal a.0 ++ (58 ∷ (decimal a.1 ++ vs)) = e ∙ append_assoc (decimal a.0) (58 ∷ decimal a.1) vs in
-    first-apart 32 58 _ _ refl (cut-same is_no_digit (48 ∷ []) (decimal a.0) (32 ∷ us) (58 ∷ (decimal a.1 ++ vs)) (refl, tt) (AllFail-decimal a.0) refl refl whole).1
+    first-apart 32 58 _ _ refl (cut-same is_no_digit (48 ∷ []) (decimal a.0) (32 ∷ us) (58 ∷ (decimal a.1 ++ vs)) (refl, tt)
+    (AllFail-decimal a.0) refl refl whole).1
 
 pub kept-same : (xs ys : List (ℕ × ℕ)) (x y : List ℕ) → AreWrittenPairs xs → AreWrittenPairs ys
     → kept_text xs ++ by_sums x ≡ kept_text ys ++ by_sums y → (xs ≡ ys) × (x ≡ y)
 kept-same [] [] x y h g e = (refl, ap (λ (t : List ℕ). drop 5 t) e)
 kept-same [] (b ∷ ys) x y h g e =
-    absurd (no-zero b (codes "by " ++ x) (further_pairs_text ys ++ by_sums y) (e ∙ append_assoc (pair_text b) (further_pairs_text ys) (by_sums y)))
+    absurd (no-zero b (codes "by " ++ x) (further_pairs_text ys ++ by_sums y)
+    (e ∙ append_assoc (pair_text b) (further_pairs_text ys) (by_sums y)))
 kept-same (a ∷ xs) [] x y h g e =
-    absurd (no-zero a (codes "by " ++ y) (further_pairs_text xs ++ by_sums x) (sym e ∙ append_assoc (pair_text a) (further_pairs_text xs) (by_sums x)))
+    absurd (no-zero a (codes "by " ++ y) (further_pairs_text xs ++ by_sums x)
+    (sym e ∙ append_assoc (pair_text a) (further_pairs_text xs) (by_sums x)))
 kept-same (a ∷ xs) (b ∷ ys) x y h g e = pairs-same a b xs ys x y h g e
 
 -- the sums end the line
@@ -108,10 +117,13 @@ pub record IsWrittenTail (l : TailLine) : Type 0 where
   pub kept : AreWrittenPairs l.kept
   pub sums : AreWrittenPairs l.sums
 
-pub IsWrittenTail-is_tail_line : (p n least : ℕ) (lines : List TailLine) (l : TailLine) → p < 100 → is_number_from least l.tail ≡ true → is_tail_line p n lines l ≡ true → IsWrittenTail l
+pub IsWrittenTail-is_tail_line : (p n least : ℕ) (lines : List TailLine) (l : TailLine) → p < 100 → is_number_from least l.tail ≡ true
+    → is_tail_line p n lines l ≡ true → IsWrittenTail l
 IsWrittenTail-is_tail_line p n least lines l small number h =
-    let first = and_parts (are_pairs p 1 l.kept) (are_kept_below lines l.tail l.kept && (ltb 0 (length l.sums) && (are_pairs p 1 l.sums && are_at_most n l.sums))) h in
-    let second = and_parts (are_kept_below lines l.tail l.kept) (ltb 0 (length l.sums) && (are_pairs p 1 l.sums && are_at_most n l.sums)) first.1 in
+    let first = and_parts (are_pairs p 1 l.kept)
+    (are_kept_below lines l.tail l.kept && (ltb 0 (length l.sums) && (are_pairs p 1 l.sums && are_at_most n l.sums))) h in
+    let second =
+    and_parts (are_kept_below lines l.tail l.kept) (ltb 0 (length l.sums) && (are_pairs p 1 l.sums && are_at_most n l.sums)) first.1 in
     let third = and_parts (ltb 0 (length l.sums)) (are_pairs p 1 l.sums && are_at_most n l.sums) second.1 in
     let last = and_parts (are_pairs p 1 l.sums) (are_at_most n l.sums) third.1 in
     record {
@@ -125,7 +137,8 @@ same_line l m a b c = λ i. record { tail = a i; kept = b i; sums = c i }
 
 pub tail_line-same : (l m : TailLine) → IsWrittenTail l → IsWrittenTail m → tail_line l ≡ tail_line m → l ≡ m
 tail_line-same l m h g e =
-    let number = decimal-told l.tail m.tail (codes " = " ++ (kept_text l.kept ++ by_sums (pairs_text l.sums))) (codes " = " ++ (kept_text m.kept ++ by_sums (pairs_text m.sums)))
+    let number = decimal-told l.tail m.tail (codes " = " ++ (kept_text l.kept ++ by_sums (pairs_text l.sums)))
+    (codes " = " ++ (kept_text m.kept ++ by_sums (pairs_text m.sums)))
     h.tail g.tail refl refl (ap (λ (t : List ℕ). drop 5 t) e) in
     let kept = kept-same l.kept m.kept (pairs_text l.sums) (pairs_text m.sums) h.kept g.kept (ap (λ (t : List ℕ). drop 3 t) number.1) in
     same_line l m number.0 kept.0 (sums-same l.sums m.sums h.sums g.sums kept.1)

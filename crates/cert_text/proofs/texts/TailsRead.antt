@@ -1,5 +1,6 @@
 -- A tail line is read from its numbers, and from no others.
-use Rattle.std.proofs.Common.{◌≡◌, ◌<◌, ◌≤◌, ℕ, suc, true, ◌&&◌, List, [], ◌∷◌, ◌++◌, drop, length, decimal, refl, ap, sym, ◌∙◌, append_assoc, append-nil, lit<, arith}
+use Rattle.std.proofs.Common.{◌≡◌, ◌<◌, ◌≤◌, ℕ, suc, true, ◌&&◌, List, [], ◌∷◌, ◌++◌, drop, length, decimal, refl, ap, sym, ◌∙◌}
+use Rattle.std.proofs.Common.{append_assoc, append-nil, lit<, arith}
 use Rattle.std.specs.Prelude.{codes, leb, ltb}
 use Rattle.std.proofs.lemmas.Bool.{and_parts, ltb-true}
 use Rattle.pq_base.specs.declared.prime.Prime.{Prime}
@@ -40,15 +41,18 @@ kept_text-pairs [] some = absurd (omega arith)
 kept_text-pairs (x ∷ xs) some = refl
 
 -- pairs that were read in front of the sums
-pub kept-read : (text rest more : List ℕ) (xs : List (ℕ × ℕ)) → 32 ∷ text ≡ further_pairs_text xs ++ rest → 1 ≤ length xs → rest ≡ by_sums more
+pub kept-read : (text rest more : List ℕ) (xs : List (ℕ × ℕ)) → 32 ∷ text ≡ further_pairs_text xs ++ rest → 1 ≤ length xs
+    → rest ≡ by_sums more
     → text ≡ kept_text xs ++ by_sums more
 kept-read text rest more xs read some cut =
     ap (λ (t : List ℕ). drop 1 t) (read ∙ ap (λ (t : List ℕ). further_pairs_text xs ++ t) cut ∙ pairs_text-further xs (by_sums more) some)
     ∙ ap (λ (t : List ℕ). t ++ by_sums more) (sym (kept_text-pairs xs some))
 
-pub sums-read : (text rest : List ℕ) (xs : List (ℕ × ℕ)) → 32 ∷ text ≡ further_pairs_text xs ++ rest → 1 ≤ length xs → rest ≡ [] → text ≡ pairs_text xs
+pub sums-read : (text rest : List ℕ) (xs : List (ℕ × ℕ)) → 32 ∷ text ≡ further_pairs_text xs ++ rest → 1 ≤ length xs → rest ≡ []
+    → text ≡ pairs_text xs
 sums-read text rest xs read some none =
-    ap (λ (t : List ℕ). drop 1 t) (read ∙ ap (λ (t : List ℕ). further_pairs_text xs ++ t) none ∙ pairs_text-further xs [] some) ∙ append-nil (pairs_text xs)
+    ap (λ (t : List ℕ). drop 1 t) (read ∙ ap (λ (t : List ℕ). further_pairs_text xs ++ t) none ∙ pairs_text-further xs [] some)
+    ∙ append-nil (pairs_text xs)
 
 -- where no pair begins the text
 pub no-kept : (text : List ℕ) → ((rest : List ℕ) → ¬ (text ≡ codes "0 by " ++ rest))
@@ -56,11 +60,14 @@ pub no-kept : (text : List ℕ) → ((rest : List ℕ) → ¬ (text ≡ codes "0
     → (xs : List (ℕ × ℕ)) (more : List ℕ) → AreSmallPairs xs → ¬ (text ≡ kept_text xs ++ by_sums more)
 no-kept text zero pair [] more h e = zero more e
 no-kept text zero pair (x ∷ xs) more h e =
-    pair x (further_pairs_text xs ++ by_sums more) h.0 (further-start xs (by_sums more) refl) (e ∙ append_assoc (pair_text x) (further_pairs_text xs) (by_sums more))
+    pair x (further_pairs_text xs ++ by_sums more) h.0 (further-start xs (by_sums more) refl)
+    (e ∙ append_assoc (pair_text x) (further_pairs_text xs) (by_sums more))
 
 -- and where no keyword ends those that do
-pub no-by : (text rest : List ℕ) (ps : List (ℕ × ℕ)) → ((more : List ℕ) → ¬ (text ≡ codes "0 by " ++ more)) → 32 ∷ text ≡ further_pairs_text ps ++ rest → AreSmallPairs ps
-    → EndsPairs rest → ((more : List ℕ) → ¬ (rest ≡ by_sums more)) → (xs : List (ℕ × ℕ)) (more : List ℕ) → AreSmallPairs xs → ¬ (text ≡ kept_text xs ++ by_sums more)
+pub no-by : (text rest : List ℕ) (ps : List (ℕ × ℕ)) → ((more : List ℕ) → ¬ (text ≡ codes "0 by " ++ more))
+    → 32 ∷ text ≡ further_pairs_text ps ++ rest → AreSmallPairs ps
+    → EndsPairs rest → ((more : List ℕ) → ¬ (rest ≡ by_sums more)) → (xs : List (ℕ × ℕ)) (more : List ℕ) → AreSmallPairs xs
+    → ¬ (text ≡ kept_text xs ++ by_sums more)
 no-by text rest ps zero read small ends none [] more h e = zero more e
 no-by text rest ps zero read small ends none (x ∷ xs) more h e =
     let same : further_pairs_text ps ++ rest ≡ further_pairs_text (x ∷ xs) ++ by_sums more = sym read ∙ ap (λ (t : List ℕ). 32 ∷ t) e in
@@ -74,20 +81,24 @@ no-sums text none (x ∷ xs) h some e = none x (further_pairs_text xs) h.0 (star
   start [] = tt
   start (y ∷ ys) = refl
 
-pub more-sums : (text rest : List ℕ) (ps : List (ℕ × ℕ)) → 32 ∷ text ≡ further_pairs_text ps ++ rest → AreSmallPairs ps → EndsPairs rest → (rest ≡ [] → ⊥)
+pub more-sums : (text rest : List ℕ) (ps : List (ℕ × ℕ)) → 32 ∷ text ≡ further_pairs_text ps ++ rest → AreSmallPairs ps → EndsPairs rest
+    → (rest ≡ [] → ⊥)
     → (xs : List (ℕ × ℕ)) → AreSmallPairs xs → 1 ≤ length xs → ¬ (text ≡ pairs_text xs)
 more-sums text rest ps read small ends some [] h one e = absurd (omega arith)
 more-sums text rest ps read small ends some (x ∷ xs) h one e =
-    let same : further_pairs_text ps ++ rest ≡ further_pairs_text (x ∷ xs) ++ [] = sym read ∙ ap (λ (t : List ℕ). 32 ∷ t) e ∙ sym (append-nil (further_pairs_text (x ∷ xs))) in
+    let same : further_pairs_text ps ++ rest ≡ further_pairs_text (x ∷ xs) ++ [] = sym read ∙ ap (λ (t : List ℕ). 32 ∷ t) e
+    ∙ sym (append-nil (further_pairs_text (x ∷ xs))) in
     some (further_pairs-told ps (x ∷ xs) rest [] small h ends EndsPairs-nil same).1
 
 -- the sums behind what is kept
-pub sums-behind : (text rest : List ℕ) (ps xs : List (ℕ × ℕ)) (more : List ℕ) → text ≡ kept_text ps ++ by_sums rest → AreSmallPairs ps → AreSmallPairs xs
+pub sums-behind : (text rest : List ℕ) (ps xs : List (ℕ × ℕ)) (more : List ℕ) → text ≡ kept_text ps ++ by_sums rest → AreSmallPairs ps
+    → AreSmallPairs xs
     → text ≡ kept_text xs ++ by_sums more → rest ≡ more
 sums-behind text rest ps xs more read h g e = (kept-same ps xs rest more (AreWritten-small ps h) (AreWritten-small xs g) (sym read ∙ e)).1
 
 -- what stands behind a tail's number
-pub tail-number : (line text rest : List ℕ) (n : ℕ) (l : TailLine) → line ≡ codes "tail " ++ text → text ≡ decimal n ++ rest → n < 65536 → StartsWell is_no_digit rest → IsSmallTail l
+pub tail-number : (line text rest : List ℕ) (n : ℕ) (l : TailLine) → line ≡ codes "tail " ++ text → text ≡ decimal n ++ rest → n < 65536
+    → StartsWell is_no_digit rest → IsSmallTail l
     → line ≡ tail_line l → rest ≡ codes " = " ++ (kept_text l.kept ++ by_sums (pairs_text l.sums))
 tail-number line text rest n l cut read small stops h e =
     (decimal-told n l.tail rest (codes " = " ++ (kept_text l.kept ++ by_sums (pairs_text l.sums))) small h.tail stops refl
@@ -103,11 +114,15 @@ AreSmallPairs-are_pairs p least (a ∷ pairs) small h =
     ((number-below least a.0 first.0, omega arith), AreSmallPairs-are_pairs p (suc a.0) pairs small third.1)
 
 -- the numbers of a line that may stand behind others
-pub small-tail : (p n : ℕ) (lines : List TailLine) (l : TailLine) → p < 100 → are_tail_lines p n (lines ++ l ∷ []) 1 (lines ++ l ∷ []) ≡ true → IsSmallTail l × (1 ≤ length l.sums)
+pub small-tail : (p n : ℕ) (lines : List TailLine) (l : TailLine) → p < 100
+    → are_tail_lines p n (lines ++ l ∷ []) 1 (lines ++ l ∷ []) ≡ true → IsSmallTail l × (1 ≤ length l.sums)
 small-tail p n lines l small h =
     let last = last-line p n 1 (lines ++ l ∷ []) lines l h in
-    let first = and_parts (are_pairs p 1 l.kept) (are_kept_below (lines ++ l ∷ []) l.tail l.kept && (ltb 0 (length l.sums) && (are_pairs p 1 l.sums && are_at_most n l.sums))) last.2 in
-    let second = and_parts (are_kept_below (lines ++ l ∷ []) l.tail l.kept) (ltb 0 (length l.sums) && (are_pairs p 1 l.sums && are_at_most n l.sums)) first.1 in
+    let first = and_parts (are_pairs p 1 l.kept)
+    (are_kept_below (lines ++ l ∷ []) l.tail l.kept && (ltb 0 (length l.sums) && (are_pairs p 1 l.sums && are_at_most n l.sums)))
+    last.2 in
+    let second = and_parts (are_kept_below (lines ++ l ∷ []) l.tail l.kept)
+    (ltb 0 (length l.sums) && (are_pairs p 1 l.sums && are_at_most n l.sums)) first.1 in
     let third = and_parts (ltb 0 (length l.sums)) (are_pairs p 1 l.sums && are_at_most n l.sums) second.1 in
     let some : 0 < length l.sums = ltb-true 0 (length l.sums) third.0 in (
       record {

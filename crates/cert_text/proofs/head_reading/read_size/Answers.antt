@@ -11,7 +11,8 @@ returns-in_default-clause-err c L = no_line-bad (in_presentation L) c.args.text.
 
 pub returns-in_default-prime_line-clause-err : goal.returns-in_default-prime_line-clause-err
 returns-in_default-prime_line-clause-err c L =
-    prime-bad L c.args.text.now c.in-Some.line.now c.in-Some.rest.now c.args.first c.requires.more c.in-Some.ensures.some c.in-Some.ensures.first c.in_default-prime_line.ensures.none
+    prime-bad L c.args.text.now c.in-Some.line.now c.in-Some.rest.now c.args.first c.requires.more c.in-Some.ensures.some
+    c.in-Some.ensures.first c.in_default-prime_line.ensures.none
 
 pub returns-in_default-next_line-clause-err : goal.returns-in_default-next_line-clause-err
 returns-in_default-next_line-clause-err c L =
@@ -29,4 +30,5 @@ returns-in-None-clause-err c L =
     let next : ℕ = c.args.first + 1 in
     behind-prime L p c.args.text.now rest c.args.first next (Line next) (prime_value-offered c.in-Some-prime_line.prime)
     (c.in-Some.ensures.some ∙ ap (λ (l : List ℕ). l ++ 10 ∷ rest) c.in-Some-prime_line.ensures.some) refl
-    (class-bad L p rest c.in-Some-next_line.line.now c.in-Some-next_line.rest.now next c.in-Some-next_line.ensures.some c.in-Some-next_line.ensures.first c.in-None.ensures.none)
+    (class-bad L p rest c.in-Some-next_line.line.now c.in-Some-next_line.rest.now next c.in-Some-next_line.ensures.some
+    c.in-Some-next_line.ensures.first c.in-None.ensures.none)

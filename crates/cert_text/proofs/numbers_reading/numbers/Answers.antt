@@ -12,7 +12,10 @@ returns-in_default-clause-none c =
 
 pub loop-rest-preserved : goal.loop-rest-preserved
 loop-rest-preserved c = record {
-  read = numbers_text-next c.args.text.now c.loop-rest.rest.now c.in-Some.more.now c.loop-rest.numbers.items c.push.new.self.items c.in-Some.number c.in_ok-push.ensures.items c.in-Some.ensures.some c.loop-rest.invariant.read;
-  small = subst (AllBelow 65536) (sym c.in_ok-push.ensures.items) (AllBelow-next 65536 c.loop-rest.numbers.items c.in-Some.number c.loop-rest.invariant.small c.in-Some.ensures.small);
-  left = LeavesNumbers-next c.args.text.now c.loop-rest.rest.now c.in-Some.more.now c.in-Some.number c.in-Some.ensures.small c.in-Some.ensures.stops c.in-Some.ensures.some c.loop-rest.invariant.left;
+  read = numbers_text-next c.args.text.now c.loop-rest.rest.now c.in-Some.more.now c.loop-rest.numbers.items c.push.new.self.items
+      c.in-Some.number c.in_ok-push.ensures.items c.in-Some.ensures.some c.loop-rest.invariant.read;
+  small = subst (AllBelow 65536) (sym c.in_ok-push.ensures.items)
+      (AllBelow-next 65536 c.loop-rest.numbers.items c.in-Some.number c.loop-rest.invariant.small c.in-Some.ensures.small);
+  left = LeavesNumbers-next c.args.text.now c.loop-rest.rest.now c.in-Some.more.now c.in-Some.number c.in-Some.ensures.small
+      c.in-Some.ensures.stops c.in-Some.ensures.some c.loop-rest.invariant.left;
 }

@@ -21,5 +21,6 @@ loop-number-preserved c =
       read =
           c.in_ok-push.ensures.items ∙ ap (λ (t : List ℕ). t ++ get_or ns k 0 ∷ []) c.loop-number.invariant.read
           ∙ sym (take-suc ns k 0 inside) ∙ ap (λ (n : ℕ). take n ns) next;
-      small = subst (AllBelow 256) (sym c.in_ok-push.ensures.items) (AllBelow-next 256 c.loop-number.path.items _ c.loop-number.invariant.small (omega (arith, c.if-number-gt255.false)));
+      small = subst (AllBelow 256) (sym c.in_ok-push.ensures.items)
+          (AllBelow-next 256 c.loop-number.path.items _ c.loop-number.invariant.small (omega (arith, c.if-number-gt255.false)));
     }

@@ -9,8 +9,10 @@ returns-in_err-line-clause-none c = IfNone-of _ (GoesOnWithP c.args.text.now) (g
 
 pub returns-then-begins_with_p-clause-none : goal.returns-then-begins_with_p-clause-none
 returns-then-begins_with_p-clause-none c =
-    goes_on-line c.args.text.now c.in_ok-line.line.now c.in_ok-line.rest.now c.in_ok-line.ensures.some c.in_ok-line.ensures.first (sym c.begins_with_p.ensures ∙ c.if-begins_with_p.true)
+    goes_on-line c.args.text.now c.in_ok-line.line.now c.in_ok-line.rest.now c.in_ok-line.ensures.some c.in_ok-line.ensures.first
+    (sym c.begins_with_p.ensures ∙ c.if-begins_with_p.true)
 
 pub returns-else-begins_with_p-clause-some : goal.returns-else-begins_with_p-clause-some
 returns-else-begins_with_p-clause-some c =
-    AreItemLines-one c.args.text.now c.in_ok-line.line.now c.in_ok-line.rest.now c.in_ok-line.ensures.some c.in_ok-line.ensures.first (sym c.begins_with_p.ensures ∙ c.if-begins_with_p.false)
+    AreItemLines-one c.args.text.now c.in_ok-line.line.now c.in_ok-line.rest.now c.in_ok-line.ensures.some c.in_ok-line.ensures.first
+    (sym c.begins_with_p.ensures ∙ c.if-begins_with_p.false)

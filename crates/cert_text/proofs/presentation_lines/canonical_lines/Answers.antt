@@ -7,4 +7,5 @@ overflow_add-low c = omega (arith, c.loop-low.invariant.order, c.loop-low.invari
 
 pub returns-clause-lines : goal.returns-clause-lines
 returns-clause-lines c =
-    IsCanonicalTo-bounds c.args.text.now c.loop-low.low c.loop-low.high (omega (arith, c.loop-low-test.false)) c.loop-low.invariant.bounds c.loop-low.invariant.empty c.loop-low.invariant.order c.loop-low.invariant.low c.loop-low.invariant.high
+    IsCanonicalTo-bounds c.args.text.now c.loop-low.low c.loop-low.high (omega (arith, c.loop-low-test.false)) c.loop-low.invariant.bounds
+    c.loop-low.invariant.empty c.loop-low.invariant.order c.loop-low.invariant.low c.loop-low.invariant.high

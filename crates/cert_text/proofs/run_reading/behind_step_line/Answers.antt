@@ -7,5 +7,6 @@ pub returns-clause-none : goal.returns-clause-none
 returns-clause-none c =
     let keyword : List ℕ = c.as_bytes.result.now in
     let is : keyword ≡ step_line c.args.k ++ 10 ∷ [] = c.as_bytes.ensures.value ∙ c.in_ok-line.ensures.ok in
-    IfNone-then c.behind.result ((rest : List ℕ) → ¬ (c.args.text.now ≡ keyword ++ rest)) ((rest : List ℕ) → ¬ (c.args.text.now ≡ step_line c.args.k ++ 10 ∷ rest)) c.behind.ensures.none
+    IfNone-then c.behind.result ((rest : List ℕ) → ¬ (c.args.text.now ≡ keyword ++ rest))
+    ((rest : List ℕ) → ¬ (c.args.text.now ≡ step_line c.args.k ++ 10 ∷ rest)) c.behind.ensures.none
     (λ none rest e. none rest (e ∙ sym (append_assoc (step_line c.args.k) (10 ∷ []) rest) ∙ ap (λ (t : List ℕ). t ++ rest) (sym is)))

@@ -15,12 +15,15 @@ use Rattle.cert_text.proofs.runs_reading.read_only_run.Goals as goal
 
 pub returns-in_default-clause-err : goal.returns-in_default-clause-err
 returns-in_default-clause-err c H head same_presentation same_prime =
-    run_line-bad H false c.args.text.now c.args.first (ap (λ (L : LPresentation). has_two_runs L) same_presentation ∙ c.requires.one) c.in_default.ensures.none
+    run_line-bad H false c.args.text.now c.args.first (ap (λ (L : LPresentation). has_two_runs L) same_presentation ∙ c.requires.one)
+    c.in_default.ensures.none
 
 pub returns-in_err-whole-clause-err : goal.returns-in_err-whole-clause-err
 returns-in_err-whole-clause-err c =
-    let Aim : CertFault → Type 0 = λ fault. (H : Head) → IsHead H → H.presentation ≡ c.args.pres.now → H.prime ≡ prime_value c.args.prime → IsBadAt (for_run H) c.args.text.now c.args.first fault in
+    let Aim : CertFault → Type 0 = λ fault. (H : Head) → IsHead H → H.presentation ≡ c.args.pres.now → H.prime ≡ prime_value c.args.prime
+    → IsBadAt (for_run H) c.args.text.now c.args.first fault in
     IfErr-given c.from_residual.result c.in_err-whole.field-0.0 Aim c.from_residual.ensures.1 (λ H head same_presentation same_prime.
-    IsBadAt-next (for_run H) (in_run H Whole [] []) (run_line Whole) c.args.text.now c.in-Some.lines.now c.args.first (c.args.first + 1) c.in_err-whole.field-0.0
+    IsBadAt-next (for_run H) (in_run H Whole [] []) (run_line Whole) c.args.text.now c.in-Some.lines.now c.args.first
+    (c.args.first + 1) c.in_err-whole.field-0.0
     (only_run H (ap (λ (L : LPresentation). has_two_runs L) same_presentation ∙ c.requires.one)) c.in-Some.ensures.some refl
     (c.in_err-whole.ensures.err H [] head same_presentation same_prime))

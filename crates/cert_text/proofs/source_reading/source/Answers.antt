@@ -16,7 +16,9 @@ pub returns-in-Some-behind-clause-none : goal.returns-in-Some-behind-clause-none
 returns-in-Some-behind-clause-none c =
     let rest : List ℕ = c.in-Some-behind.rest.now in
     let None_is : Type 0 = (i : ℕ) (s : List ℕ) → i < 65536 → AllBelow 256 s → ¬ (rest ≡ numbers_text (i ∷ []) ++ along_text s) in
-    let Aim : Type 0 = (L : LPresentation) (run : Run) (a : RowSource) → IsWithinLimits L → is_source_in L run a ≡ true → ¬ (c.args.text.now ≡ source_text a) in
+    let Aim : Type 0 = (L : LPresentation) (run : Run) (a : RowSource) → IsWithinLimits L → is_source_in L run a ≡ true
+    → ¬ (c.args.text.now ≡ source_text a) in
     IfOk-weaker c.iterated_behind.result (λ (o : Option RowSource). IfNone o None_is) (λ (o : Option RowSource). IfNone o Aim)
-    (λ o h. IfNone-then o None_is Aim h (λ none L run a limits named. not-iterated L run a limits named c.args.text.now rest c.in-Some-behind.ensures.some none))
+    (λ o h. IfNone-then o None_is Aim h
+    (λ none L run a limits named. not-iterated L run a limits named c.args.text.now rest c.in-Some-behind.ensures.some none))
     c.iterated_behind.ensures.none

@@ -6,7 +6,8 @@ use Rattle.pq_run.proofs.sample_output.output_of_sample.Goals as goal
 
 pub returns-clause-small : goal.returns-clause-small
 returns-clause-small c =
-    small_sample_ranks c.args.n c.in_ok-pres.pres (prime_value c.sample_prime-prime.result) c.in_ok-pres.ensures c.sample_prime-prime.ensures
+    small_sample_ranks c.args.n c.in_ok-pres.pres (prime_value c.sample_prime-prime.result) c.in_ok-pres.ensures
+    c.sample_prime-prime.ensures
     c.in_ok-answer.answer c.in_ok-answer.ensures.quotient
 
 pub returns-in_err-answer-clause-err : goal.returns-in_err-answer-clause-err

@@ -14,5 +14,5 @@ returns-in-Ok-clause-ends g c words spelled =
 
 pub returns-in-Err-clause-ends : goal.returns-in-Err-clause-ends
 returns-in-Err-clause-ends g c words spelled =
-    let read = reading_of g.S.Source.left g.S.Source.faults c.args.source.now c.output_of_certificate.new.source in
+    let read = reading_of g.S.Source.left g.S.Source.faults c.args.source.now c.output_of_check.new.source in
     refuses words _ _ _ c.in-Err.refusal (input_cause words spelled read c.in-Err.refusal c.in-Err.ensures.err) c.refuse.ensures.ends

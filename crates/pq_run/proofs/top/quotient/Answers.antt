@@ -15,6 +15,6 @@ returns-in-Ok-clause-ends g c words spelled =
 
 pub returns-in-Err-clause-ends : goal.returns-in-Err-clause-ends
 returns-in-Err-clause-ends g c words spelled =
-    let read = reading_of g.S.Source.left g.S.Source.faults c.args.source.now c.output_of_source.new.source in
+    let read = reading_of g.S.Source.left g.S.Source.faults c.args.source.now c.output_of_quotient.new.source in
     let cause = input_cause words c.args.prime c.args.class c.args.form spelled read c.in-Err.refusal c.in-Err.ensures.err in
     refuses words _ _ _ c.in-Err.refusal cause c.refuse.ensures.ends

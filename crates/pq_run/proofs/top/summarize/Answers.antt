@@ -10,7 +10,8 @@ pub returns-in-Ok-clause-ends : goal.returns-in-Ok-clause-ends
 returns-in-Ok-clause-ends g c words r spelled untouched =
     let wrote = writing_of g.K.Sink.taken g.K.Sink.faults c.args.sink.now c.finish.new.sink in
     let took = subst (Took wrote c.finish.result) c.deref.ensures.value c.finish.ensures.ends in
-    summary_ends words c.args.n spelled r c.in-Ok.bytes.items wrote c.finish.result untouched c.in-Ok.ensures.small c.in-Ok.ensures.output took
+    summary_ends words c.args.n spelled r c.in-Ok.bytes.items wrote c.finish.result untouched c.in-Ok.ensures.small
+    c.in-Ok.ensures.output took
 
 pub returns-in-Err-clause-ends : goal.returns-in-Err-clause-ends
 returns-in-Err-clause-ends g c words r spelled untouched =

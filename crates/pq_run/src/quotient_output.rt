@@ -1,4 +1,6 @@
-// The outputs of `quotient P C` and `certify P C`: from the bytes of a source to the bytes of the answer in the form that is asked for.
+//! The outputs of `quotient P C`, `quotient P C json` and `certify P C`: from the bytes of a source to the bytes of the answer in the form
+//! that is asked for, as text, as JSON or in a certificate.
+
 ghost use Rattle.std.specs.Prelude.{◌≡◌, ◌≤◌, ◌+◌, [], Some, IfOk, IfErr, IfSome};
 ghost use Rattle.pq_base.specs.Prime.{prime_value};
 ghost use Rattle.answer_text.specs.AnswerText.{answer_text};
@@ -8,15 +10,15 @@ ghost use Rattle.tower.specs.Answers.{IsQuotient};
 ghost use Rattle.tower.specs.TwoRuns.{HasSmallPart};
 ghost use Rattle.pq_run.specs.declared.input.Input.TheVariants.{Presentation};
 ghost use Rattle.pq_run.specs.Input.{byte_limit, IsTaken, IsWithin};
-ghost use Rattle.pq_run.specs.Form.{quotient_command};
+ghost use Rattle.pq_run.specs.declared.command.Command.TheVariants.{Quotient};
 ghost use Rattle.pq_run.specs.Command.{IsClass};
 ghost use Rattle.pq_run.specs.Texts.{HasSmallRanks, OfEachText};
 ghost use Rattle.pq_run.specs.Output.{WritesAnswer, OutputOf};
 ghost use Rattle.pq_run.specs.Streams.{reading_of};
-ghost use Rattle.pq_run.specs.Cause.{IsPresentationCause, IsInputCause};
+ghost use Rattle.pq_run.specs.Cause.{IsPresentationCause, IsQuotientCause};
 
-use crate::certificate_output::output_as_certificate;
-use crate::form::Form;
+use crate::certify_output::output_as_certificate;
+use crate::command::Form;
 use crate::input::read_presentation;
 use crate::refusal::Refusal;
 use answer_text::{json, text};
@@ -30,7 +32,7 @@ use std::alloc::Global;
 use tower::largest;
 
 /// Reads a presentation to its end, and gives the bytes of its answer.
-pub fn output_of_source<S: Source>(
+pub(crate) fn output_of_quotient<S: Source>(
     alloc: Global,
     prime: Prime,
     class: u8,
@@ -42,8 +44,8 @@ pub fn output_of_source<S: Source>(
     ensures within { IfOk result (λ bytes. IfSome (S.left source.old) (IsWithin Presentation)) }
     ensures small { IfOk result (λ bytes. IfSome (S.left source.old) (HasSmallRanks (prime_value prime) class)) }
     ensures output { IfOk result (λ bytes. IfSome (S.left source.old)
-        (λ text. OutputOf (quotient_command prime class form) text bytes.items)) }
-    ensures err { IfErr result (IsInputCause (prime_value prime) class (reading_of S.left S.faults source.old source.new)) }
+        (λ text. OutputOf (Quotient prime class form) text bytes.items)) }
+    ensures err { IfErr result (IsQuotientCause (prime_value prime) class (reading_of S.left S.faults source.old source.new)) }
     ensures count { S.faults source.old ≤ S.faults source.new }
     ensures left { IsTaken (byte_limit Presentation + 1) (S.left source.old) (S.left source.new) }
 {
@@ -62,7 +64,7 @@ fn output_of(
     requires { IsClass class }
     ensures small { IfOk result (λ bytes. OfEachText pres.now (HasSmallRanks (prime_value prime) class)) }
     ensures output { IfOk result (λ bytes. OfEachText pres.now
-        (λ text. OutputOf (quotient_command prime class form) text bytes.items)) }
+        (λ text. OutputOf (Quotient prime class form) text bytes.items)) }
     ensures err { IfErr result (IsPresentationCause (prime_value prime) class pres.now) }
 {
     match form {
@@ -96,7 +98,7 @@ fn output_as_json(alloc: Global, prime: Prime, class: u8, pres: &LPres) -> Resul
     Ok(json(alloc, &answer)?)
 }
 
-/// The answer of a presentation.
+/// The answer of a presentation. That its names and its rank are such as a text has comes from the calls whose results aren't used.
 fn answer_of(alloc: Global, prime: Prime, class: u8, pres: &LPres) -> Result<Answer, Refusal>
     requires { IsClass class }
     ensures quotient { IfOk result (λ answer. IsQuotient pres.now (prime_value prime) class answer) }

@@ -2,7 +2,7 @@
 use Rattle.pq_base.specs.Prime.{prime_value}
 use Rattle.pq_base.proofs.PrimeLaws.{prime_value-offered}
 use Rattle.pq_run.proofs.CertifiedOutputs.{holds-tower, one_run, fits, certifies}
-use Rattle.pq_run.proofs.certificate_output.certificate_of.Goals as goal
+use Rattle.pq_run.proofs.certify_output.certificate_of.Goals as goal
 
 pub finish-requires-clause-steps : goal.finish-requires-clause-steps
 finish-requires-clause-steps c =

@@ -1,7 +1,7 @@
 -- What the presentation is refused for, the input is refused for.
 use Rattle.std.proofs.lemmas.Result.{err_from_is_err_and}
 use Rattle.pq_base.specs.Prime.{prime_value}
-use Rattle.pq_run.proofs.output.output_of_source.Goals as goal
+use Rattle.pq_run.proofs.quotient_output.output_of_quotient.Goals as goal
 
 pub returns-in_err-pres-clause-err : goal.returns-in_err-pres-clause-err
 returns-in_err-pres-clause-err g c =

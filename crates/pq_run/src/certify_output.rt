@@ -1,4 +1,5 @@
-// The output of `certify P C`: a certificate of the answer of a presentation.
+//! The output of `certify P C`: a certificate of the answer of a presentation.
+
 ghost use Rattle.std.specs.Prelude.{◌≡◌, IfOk, IfErr};
 ghost use Rattle.pq_base.specs.Prime.{prime_value};
 ghost use Rattle.pq_run.specs.Command.{IsClass};
@@ -16,7 +17,7 @@ use std::alloc::Global;
 use tower::largest;
 
 /// A certificate of the answer of a presentation, as text.
-pub fn output_as_certificate(
+pub(crate) fn output_as_certificate(
     alloc: Global,
     prime: Prime,
     class: u8,
@@ -32,7 +33,8 @@ pub fn output_as_certificate(
     Ok(write(alloc, &cert)?)
 }
 
-/// A certificate of the answer of a presentation: the steps over all tails and all overlaps, by the plain rule.
+/// A certificate of the answer of a presentation: the steps over all tails and all overlaps, by the plain rule. That the presentation
+/// keeps its limits comes from the call whose result isn't used.
 fn certificate_of(alloc: Global, prime: Prime, class: u8, pres: &LPres) -> Result<Cert, Refusal>
     requires { IsClass class }
     ensures small { IfOk result (λ cert. OfEachText pres.now (HasSmallRanks (prime_value prime) class)) }

@@ -1,7 +1,7 @@
 -- What is written of the certificate is written of its text, and what the certificate is refused for, the input is refused for.
 use Rattle.pq_run.specs.Streams.{reading_of}
 use Rattle.pq_run.proofs.CheckEnds.{written_result, refused_result}
-use Rattle.pq_run.proofs.check_output.output_of_certificate.Goals as goal
+use Rattle.pq_run.proofs.check_output.output_of_check.Goals as goal
 
 pub returns-clause-output : goal.returns-clause-output
 returns-clause-output g c =

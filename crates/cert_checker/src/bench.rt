@@ -43,7 +43,7 @@ impl Bench {
     }
 }
 
-/// So many elements of zeros.
+/// The identity, `count` times.
 pub(crate) fn ones(alloc: Global, pcp: &Pcp, count: usize) -> Result<Vec<Elem>, NoMemory>
     ensures elements { IfOk result (λ v. All (IsElement pcp.now) v.items) }
     ensures count { IfOk result (λ v. length v.items ≡ count) }

@@ -1,4 +1,4 @@
-//! Whether an answer kills words.
+//! Whether the images of an answer carry words to the identity.
 
 ghost use Rattle.std.specs.Prelude.{◌≡◌, ◌↔◌, length, IsTrue, IfOk};
 ghost use Rattle.pq_base.specs.SignedWord.{HasLetters};

@@ -54,7 +54,7 @@ fn has_two_runs(pres: &LPres) -> bool
     !pres.fixed().is_empty() && !pres.endos().is_empty()
 }
 
-/// Judges what comes after the run of the whole.
+/// Judges what comes after the run of the whole: the fixed relators, the map of the first answer, and that the answer is the built one.
 fn judge_last(
     alloc: Global,
     cert: &Cert,

@@ -58,7 +58,7 @@ fn combinations(
     Ok(combinations)
 }
 
-/// The word in the kept tails that a tail becomes.
+/// The word in the kept tails that a tail, counted from 1, becomes.
 fn word_of_tail(
     alloc: Global,
     cover: &Cover,
@@ -104,7 +104,7 @@ fn coefficient(pairs: &[(u16, u8)], number: u16) -> u8
     0
 }
 
-/// The kept tail as a word.
+/// The word that a kept tail, counted from 1, becomes: itself.
 fn unit_word(alloc: Global, kept: &[u16], tail: u16) -> Result<Vec<Syllable>, NoMemory>
     requires limit { length kept.now ≤ max_rank }
     ensures { IfOk result (λ word. word.items ≡ syllables_of 0 (map (λ c. cond (eqb tail c) 1 0) kept.now)) }

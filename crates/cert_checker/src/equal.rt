@@ -152,7 +152,7 @@ fn images_are_equal(left: &Answer, right: &Answer) -> bool
     true
 }
 
-/// Whether the images i + 1 are equal.
+/// Whether the images of given generator i + 1, counted from 1, are equal.
 fn image_is_equal(left: &Answer, right: &Answer, i: u16) -> bool
     requires rank { left.now.presentation.rank ≡ right.now.presentation.rank }
     requires names { length left.now.names ≡ length right.now.names }

@@ -1,4 +1,4 @@
-//! One part of a certificate.
+//! The verdict on one part of a certificate: it passes, or the certificate is refused by it.
 
 ghost use Rattle.std.specs.Prelude.{◌↔◌, [], ◌∷◌, IsTrue, IfErr, OnOk};
 ghost use Rattle.derivation_log.specs.CertificateParts.{full_kind};
@@ -8,7 +8,7 @@ ghost use Rattle.cert_checker.specs.Judging.{IsRefusedAt, parts_at};
 use crate::refusal::CheckRefusal;
 use derivation_log::{Cert, Part, Run};
 
-/// Refuses a certificate where a part doesn't keep what it has to.
+/// Refuses a certificate by a part that doesn't keep what it has to; `keeps` says whether it does.
 pub(crate) fn judged(
     _cert: &Cert,
     run: Run,
@@ -27,7 +27,7 @@ pub(crate) fn judged(
     }
 }
 
-/// Refuses a certificate where a part that is judged at the class that is asked for doesn't keep what it has to.
+/// The same of a part that is judged after the steps, at the class that is asked for.
 pub(crate) fn judged_last(
     cert: &Cert,
     run: Run,

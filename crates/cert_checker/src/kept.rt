@@ -35,7 +35,7 @@ pub(crate) fn kept_tails(
     Ok(kept)
 }
 
-/// The line of a tail, if it has one.
+/// The line of a tail, counted from 1, if it has one.
 pub(crate) fn line_of(lines: &[CertTail], tail: u16) -> Option<&CertTail>
     ensures some { IfSome result (λ line. IsLineOf lines.now tail line.now) }
     ensures none { IfNone result (is_listed tail (tails_of lines.now) ≡ false) }

@@ -1,6 +1,7 @@
-//! The checker of certificates. It stands on presentations, covers, rows and the plain collector alone, and takes nothing from the
-//! engine that finds largest quotients: no basis, no closure, no search. `check` gives the answer of a valid certificate, and of any
-//! other the first part that fails.
+//! The checker of certificates. It stands on presentations, covers, the rows of relators in them, the builder of a next answer and the
+//! plain collector, and takes nothing else from the engine that finds largest quotients: no basis, no closure, no search. `check` gives
+//! the answer of a valid certificate, and of any other the first part that fails. Where a call's result isn't used, as in
+//! `let _names = pres.names()`, the call is made for what its contract says of the value.
 #![tactic(auto)]
 
 mod bench;

@@ -91,7 +91,7 @@ fn make_map_of_words(
     carry_images(bench, pcp, from, given, elements)
 }
 
-/// Whether they carry the images.
+/// Whether the words of the elements for the generators of an answer carry its images to those of the elements for the given generators.
 fn carry_images(
     bench: &mut Bench,
     pcp: &Pcp,
@@ -119,7 +119,7 @@ fn carry_images(
     true
 }
 
-/// Whether they carry image i + 1.
+/// Whether they carry image i + 1, counted from 1.
 fn carries_image(
     bench: &mut Bench,
     pcp: &Pcp,

@@ -35,7 +35,7 @@ fn all_agree(s: &mut Scratch<Plain>, pcp: &Pcp) -> bool
     true
 }
 
-/// Whether those agree of which generator k, counted from 1, is the latest.
+/// Whether the overlaps agree of which generator k, counted from 1, is the latest.
 fn agree_up_to(s: &mut Scratch<Plain>, pcp: &Pcp, k: u16) -> bool
     requires scratch { IsScratch pcp.now s.old }
     requires no_tails { pcp.now.tails ≡ 0 }
@@ -47,7 +47,7 @@ fn agree_up_to(s: &mut Scratch<Plain>, pcp: &Pcp, k: u16) -> bool
     agrees(s, pcp, Overlap::Own(k)) && pairs_agree(s, pcp, k) && triples_agree(s, pcp, k)
 }
 
-/// Whether those agree of generator k and an earlier one.
+/// Whether the overlaps agree of generator k and one earlier generator.
 fn pairs_agree(s: &mut Scratch<Plain>, pcp: &Pcp, k: u16) -> bool
     requires scratch { IsScratch pcp.now s.old }
     requires no_tails { pcp.now.tails ≡ 0 }
@@ -63,7 +63,7 @@ fn pairs_agree(s: &mut Scratch<Plain>, pcp: &Pcp, k: u16) -> bool
     true
 }
 
-/// Whether those agree of generator k and two earlier ones.
+/// Whether the overlaps agree of generator k and two earlier generators.
 fn triples_agree(s: &mut Scratch<Plain>, pcp: &Pcp, k: u16) -> bool
     requires scratch { IsScratch pcp.now s.old }
     requires no_tails { pcp.now.tails ≡ 0 }
@@ -79,7 +79,7 @@ fn triples_agree(s: &mut Scratch<Plain>, pcp: &Pcp, k: u16) -> bool
     true
 }
 
-/// Whether those agree of generators k and j and an earlier one.
+/// Whether the overlaps agree of generators k and j and a generator before both.
 fn last_agree(s: &mut Scratch<Plain>, pcp: &Pcp, k: u16, j: u16) -> bool
     requires scratch { IsScratch pcp.now s.old }
     requires no_tails { pcp.now.tails ≡ 0 }
@@ -109,7 +109,7 @@ fn agrees(s: &mut Scratch<Plain>, pcp: &Pcp, overlap: Overlap) -> bool
 }
 
 /// Whether two elements have the same exponents.
-fn are_alike(left: &Elem, right: &Elem) -> bool
+pub(crate) fn are_alike(left: &Elem, right: &Elem) -> bool
     ensures { IsTrue result ↔ left.now.state.exponents ≡ right.now.state.exponents }
 {
     left.exponents() == right.exponents()

@@ -15,7 +15,7 @@ pub enum CheckRefusal {
     Refused {
         /// The run that is judged.
         run: Run,
-        /// The class that is judged.
+        /// The class that is judged: that of a step, and for what is judged after the steps the one that is asked for.
         class: u8,
         /// The part that fails.
         part: Part,

@@ -1,4 +1,4 @@
-//! The rows of a step by the plain rule.
+//! The rows of all sources of a step by the plain rule, and the row of zeros.
 
 ghost use Rattle.std.specs.Prelude.{◌≡◌, IfOk, IfSome, IfNone, All, length};
 ghost use Rattle.pq_base.specs.Elementary.{zeros};
@@ -14,7 +14,7 @@ use p_cover::Cover;
 use pq_base::NoMemory;
 use std::alloc::Global;
 
-/// The rows of sources in a cover, or `None` where one of them has none.
+/// The rows of sources in a cover, each by the plain rule, or `None` where one of them has none.
 pub(crate) fn rows_of(
     alloc: Global,
     cover: &Cover,

@@ -63,7 +63,8 @@ fn start(alloc: Global, cert: &Cert) -> Result<Built, NoMemory>
 fn judge_end(alloc: Global, cert: &Cert, run: Run, built: &Built) -> Result<(), CheckRefusal>
     requires { HasBuilt cert.now run (length (steps_of cert.now run)) built.now }
     ensures consistent { OnOk result (IsConsistent built.now.answer.presentation) }
-    ensures pass { OnOk result (AllPass cert.now (parts_at run cert.now.class (Short ∷ Overlap ∷ Iterated ∷ []) ++ endo_trials cert.now run)) }
+    ensures pass { OnOk result (AllPass cert.now
+        (parts_at run cert.now.class (Short ∷ Overlap ∷ Iterated ∷ []) ++ endo_trials cert.now run)) }
     ensures refused { IfErr result (IsRefusedAt cert.now
         (parts_at run cert.now.class (Short ∷ Overlap ∷ Iterated ∷ []) ++ endo_trials cert.now run)) }
 {

@@ -12,6 +12,7 @@ ghost use Rattle.pc_presentation.specs.Tailed.{IsElement, rowed_presentation};
 ghost use Rattle.cert_checker.specs.MapWords.{words_of, StandsFor, left_word, Satisfy, IsBench};
 
 use crate::bench::Bench;
+use crate::overlaps::are_alike;
 use crate::values::multiply_out;
 use pc_presentation::{Answer, Elem, Pcp, Relation, Scratch, commutator, power};
 use plain_collector::Plain;
@@ -40,7 +41,7 @@ pub(crate) fn satisfy_powers(
     true
 }
 
-/// Whether they satisfy the commutators.
+/// Whether the elements for the generators of an answer satisfy the commutators among its relations.
 pub(crate) fn satisfy_commutators(
     bench: &mut Bench,
     pcp: &Pcp,
@@ -64,7 +65,7 @@ pub(crate) fn satisfy_commutators(
     true
 }
 
-/// Whether they satisfy the commutators of generator j + 1 and those before it.
+/// Whether they satisfy the commutators of generator j + 1, counted from 1, and those before it.
 fn satisfy_commutators_of(
     bench: &mut Bench,
     pcp: &Pcp,
@@ -97,7 +98,7 @@ fn satisfy_commutators_of(
     true
 }
 
-/// Whether they satisfy a relation.
+/// Whether the elements for the generators of an answer satisfy one of its relations.
 fn satisfy(
     bench: &mut Bench,
     pcp: &Pcp,
@@ -137,7 +138,7 @@ fn satisfy(
     are_joined(pcp, &bench.left, &bench.right)
 }
 
-/// Makes the element the value of the left side of a relation.
+/// Makes `value` the value of the left side of a relation under the elements for the generators.
 fn left_side(
     s: &mut Scratch<Plain>,
     pcp: &Pcp,
@@ -171,7 +172,7 @@ fn left_side(
     }
 }
 
-/// Whether the words of two elements are joined.
+/// Whether the words of two elements of a consistent presentation are joined: they are exactly where the exponents are the same.
 pub(crate) fn are_joined(pcp: &Pcp, left: &Elem, right: &Elem) -> bool
     requires no_tails { pcp.now.tails ≡ 0 }
     requires consistent { IsConsistent pcp.now.presentation }
@@ -182,11 +183,4 @@ pub(crate) fn are_joined(pcp: &Pcp, left: &Elem, right: &Elem) -> bool
 {
     let _presentation = pcp.rank();
     are_alike(left, right)
-}
-
-/// Whether two elements have the same exponents.
-fn are_alike(left: &Elem, right: &Elem) -> bool
-    ensures { IsTrue result ↔ left.now.state.exponents ≡ right.now.state.exponents }
-{
-    left.exponents() == right.exponents()
 }

@@ -1,4 +1,4 @@
-//! The rows of the sources of a step by the plain rule.
+//! The row of one source in a cover by the plain rule.
 
 ghost use Rattle.std.specs.Prelude.{◌≡◌, ◌↔◌, ℕ, List, length, IsTrue};
 ghost use Rattle.pq_base.specs.SignedWord.{HasLetters};

@@ -25,7 +25,7 @@ use pq_base::NoMemory;
 use pq_base::limits::RANK;
 use std::alloc::Global;
 
-/// Judges the step of a run that comes after so many, and makes the answer that it builds.
+/// Judges the step of a run that comes after `done` others, and makes the answer that it builds.
 pub(crate) fn judge_step(
     alloc: Global,
     cert: &Cert,
@@ -47,7 +47,7 @@ pub(crate) fn judge_step(
     judge_over(alloc, cert, run, done + 1, &cover, built)
 }
 
-/// Judges whether the step that comes after so many is wanted.
+/// Judges whether the step that comes after `done` others is wanted: its class is asked for, and each step before it kept a tail.
 fn judge_extra(cert: &Cert, run: Run, done: u8, built: &Built) -> Result<(), CheckRefusal>
     requires class { done ≤ cert.now.class }
     requires earlier { (j : ℕ) → 1 ≤ j → j < done → kept_at full_cover_of cert.now run j ≢ [] }
@@ -60,7 +60,7 @@ fn judge_extra(cert: &Cert, run: Run, done: u8, built: &Built) -> Result<(), Che
     judged(cert, run, done + 1, Part::Extra, wanted)
 }
 
-/// Judges the other parts of a step over the cover of the answer before it, and makes the answer that it builds.
+/// Judges the other parts of the step to a class, over the cover of the answer before it, and makes the answer that it builds.
 fn judge_over(
     alloc: Global,
     cert: &Cert,
@@ -164,7 +164,7 @@ fn judge_rank(
     Ok(kept)
 }
 
-/// Whether kept tails give an answer of a rank within the limit.
+/// Whether the kept tails of a step may be kept, and give an answer of a rank within the limit.
 fn give_answer(cover: &Cover, step: &CertStep, kept: &[u16]) -> bool
     requires { kept.now ≡ kept_in cover.now step.now }
     ensures { IsTrue result ↔ GiveAnswer full_kind cover.now step.now }

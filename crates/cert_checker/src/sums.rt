@@ -37,8 +37,8 @@ pub(crate) fn are_sums(
     Ok(true)
 }
 
-/// Whether a line is a sum of rows in a cover: the sum, with the tails that the line keeps added and its own tail taken away, is zero. It
-/// is written over the row.
+/// Whether a line is a sum of rows in a cover: the sum, with the tails that the line keeps added and its own tail taken away, is zero.
+/// `sum` is written over.
 fn is_sum(cover: &Cover, rows: &[Row], line: &CertTail, sum: &mut Row) -> bool
     requires rows { All (IsRowFor cover.now) rows.now }
     requires line { IsLineOver cover.now.answer.presentation.prime (length rows.now) line.now }
@@ -72,12 +72,14 @@ fn add_multiples(rows: &[Row], pairs: &[(u16, u8)], sum: &mut Row)
     }
 }
 
-/// Adds coefficients at their columns.
+/// Adds coefficients at their columns, counted from 1.
 fn add_entries(pairs: &[(u16, u8)], row: &mut Row)
     requires row { IsAlike row.old row.old }
     requires pairs { ArePairs row.old.prime 1 (length row.old.entries) pairs.now }
     ensures row { IsAlike row.old row.new }
-    ensures sum { row.new ≡ record row.old { entries = add_rows row.old.prime row.old.entries (row_of_pairs (length row.old.entries) pairs.now) } }
+    ensures sum { row.new ≡ record row.old {
+      entries = add_rows row.old.prime row.old.entries (row_of_pairs (length row.old.entries) pairs.now);
+    } }
 {
     for pair in pairs {
         raise(row, pair.0, pair.1);

@@ -1,4 +1,4 @@
-//! The values of definitions and of words under elements. They are joined to the words that they are the values of, by any collector.
+//! The values of definitions and of words under elements: elements whose words are joined to what the definitions and words say.
 
 ghost use Rattle.std.specs.Prelude.{◌≡◌, ◌≤◌, ◌-◌, ◌++◌, All, get_or, length, []};
 ghost use Rattle.pq_base.specs.SignedWord.{copies, sub};
@@ -14,7 +14,7 @@ use pc_presentation::{
 };
 use plain_collector::Plain;
 
-/// Makes the element the value of a definition, by the elements for the given generators and those for the generators.
+/// Makes `value` the value of a definition, by the elements for the given generators and those for the generators.
 pub(crate) fn define(
     s: &mut Scratch<Plain>,
     pcp: &Pcp,
@@ -50,7 +50,8 @@ pub(crate) fn define(
     }
 }
 
-/// Makes the elements the values of the definitions of an answer's generators, one after the other.
+/// Makes `elements` the values of the definitions of an answer's generators, by the elements for the given generators. `value` is
+/// written over.
 pub(crate) fn define_all(
     s: &mut Scratch<Plain>,
     pcp: &Pcp,
@@ -77,7 +78,7 @@ pub(crate) fn define_all(
     }
 }
 
-/// Makes the element the value of a normal word under elements.
+/// Makes `value` the value of a normal word under elements. `factor` and `next` are written over.
 pub(crate) fn multiply_out(
     s: &mut Scratch<Plain>,
     pcp: &Pcp,
@@ -104,7 +105,7 @@ pub(crate) fn multiply_out(
     }
 }
 
-/// Multiplies the value by a power of an element.
+/// Multiplies `value` by the power of an element that a syllable says. `factor` and `next` are written over.
 fn multiply_by(
     s: &mut Scratch<Plain>,
     pcp: &Pcp,

@@ -1,4 +1,4 @@
-use Rattle.cert_checker.proofs.CarriedWords.{killed-carried}
+use Rattle.cert_checker.proofs.words.CarriedWords.{killed-carried}
 use Rattle.cert_checker.proofs.carried.carries_one.Goals as goal
 
 pub returns-clause-carried : goal.returns-clause-carried

@@ -2,8 +2,8 @@ use Rattle.std.proofs.Common.{◌++◌}
 use Rattle.derivation_log.specs.declared.source.Run.TheVariants.{Whole}
 use Rattle.derivation_log.specs.Validity.{run_trials}
 use Rattle.cert_checker.specs.Judging.{IsRefusalOf, first_run_trials, last_trials}
-use Rattle.cert_checker.proofs.Judging.{both-pass, refused-before, refused-behind, refusal-of}
-use Rattle.cert_checker.proofs.RunSteps.{handed-on}
+use Rattle.cert_checker.proofs.judging.Judging.{both-pass, refused-before, refused-behind, refusal-of}
+use Rattle.cert_checker.proofs.judging.RunSteps.{handed-on}
 use Rattle.cert_checker.proofs.checking.check.Goals as goal
 
 pub returns-in_err-first-clause-refused : goal.returns-in_err-first-clause-refused

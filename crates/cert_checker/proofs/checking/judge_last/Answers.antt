@@ -3,10 +3,10 @@ use Rattle.pq_base.specs.LPresentation.{LPresentation, AreWords}
 use Rattle.derivation_log.specs.declared.part.Part.TheVariants as part
 use Rattle.derivation_log.specs.declared.source.Run.TheVariants.{Whole}
 use Rattle.cert_checker.specs.Judging.{parts_at, map_trials, last_trials, IsRefusedAt}
-use Rattle.cert_checker.proofs.Judging.{one-passes, refused-before, refused-behind}
-use Rattle.cert_checker.proofs.StepParts.{refuse-behind, refuse-before}
-use Rattle.cert_checker.proofs.RunSteps.{handed-on}
-use Rattle.cert_checker.proofs.RunParts.{words-built}
+use Rattle.cert_checker.proofs.judging.Judging.{one-passes, refused-before, refused-behind}
+use Rattle.cert_checker.proofs.judging.StepParts.{refuse-behind, refuse-before}
+use Rattle.cert_checker.proofs.judging.RunSteps.{handed-on}
+use Rattle.cert_checker.proofs.judging.RunParts.{words-built}
 use Rattle.cert_checker.proofs.checking.judge_last.Goals as goal
 
 pub carries-requires-clause-letters : goal.carries-requires-clause-letters

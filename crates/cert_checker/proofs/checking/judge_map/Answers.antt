@@ -2,7 +2,7 @@ use Rattle.std.proofs.Common.{◌≡◌, IfSome, sym, ◌∙◌, refl, subst}
 use Rattle.derivation_log.specs.declared.source.Run.TheVariants.{Iterated, Whole}
 use Rattle.cover_quotient.specs.Stages.{full_cover_of}
 use Rattle.derivation_log.specs.CertificateParts.{built_by}
-use Rattle.cert_checker.proofs.RunParts.{names-built}
+use Rattle.cert_checker.proofs.judging.RunParts.{names-built}
 use Rattle.cert_checker.proofs.checking.judge_map.Goals as goal
 
 pub make_map-requires-clause-names : goal.make_map-requires-clause-names

@@ -1,7 +1,7 @@
 use Rattle.std.proofs.Common.{◌≤◌, ◌+◌, ℕ, List, length, sym, subst}
 use Rattle.pq_base.specs.Limits.{max_rank}
 use Rattle.cover_quotient.specs.Combinations.{AreCombinationsOf, AreKept}
-use Rattle.cert_checker.proofs.LineCombinations.{lines-are_combinations, lines-keep}
+use Rattle.cert_checker.proofs.summing.LineCombinations.{lines-are_combinations, lines-keep}
 use Rattle.cert_checker.proofs.combining.answer_of_lines.Goals as goal
 
 pub next_answer-requires-clause-combinations : goal.next_answer-requires-clause-combinations

@@ -5,7 +5,7 @@ use Rattle.pc_presentation.specs.Syllable.{spread, syllables_of, AreSyllables}
 use Rattle.cover_quotient.specs.Combinations.{TailCombinations}
 use Rattle.derivation_log.specs.Certificates.{TailLine}
 use Rattle.cert_checker.specs.KeptTails.{kept_tails, kept_row}
-use Rattle.cert_checker.proofs.LineCombinations.{kept_row-word, kept_row-spread, kept_rows-more}
+use Rattle.cert_checker.proofs.summing.LineCombinations.{kept_row-word, kept_row-spread, kept_rows-more}
 use Rattle.cert_checker.proofs.combining.combinations.Goals as goal
 
 pub push-requires : goal.push-requires

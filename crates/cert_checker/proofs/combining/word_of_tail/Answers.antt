@@ -1,6 +1,6 @@
 use Rattle.std.proofs.Common.{◌≡◌, IfOk, List, length, subst}
 use Rattle.pc_presentation.specs.declared.syllable.Syllable.{Syllable}
-use Rattle.cert_checker.proofs.LineCombinations.{word-with_line, word-without_line}
+use Rattle.cert_checker.proofs.summing.LineCombinations.{word-with_line, word-without_line}
 use Rattle.cert_checker.proofs.combining.word_of_tail.Goals as goal
 
 pub returns-in-Some : goal.returns-in-Some

@@ -2,7 +2,7 @@ use Rattle.std.proofs.Common.{◌<◌, ◌≤◌, ◌∙◌, ℤ, List, length, 
 use Rattle.std.specs.List.{All as Each}
 use Rattle.std.proofs.lemmas.List.{take_all}
 use Rattle.derivation_log.specs.PlainValues.{InducesPlainly}
-use Rattle.cert_checker.proofs.InducedMaps.{mapped-count, induced-more}
+use Rattle.cert_checker.proofs.mapping.InducedMaps.{mapped-count, induced-more}
 use Rattle.cert_checker.proofs.endos.induce_each.Goals as goal
 
 pub loop-e-preserved : goal.loop-e-preserved

@@ -9,8 +9,8 @@ use Rattle.p_cover.specs.Covers.{cover_presentation}
 use Rattle.p_cover.proofs.ImageStates.{lifted-count}
 use Rattle.epimorphism.specs.Rooms.{value_elements}
 use Rattle.derivation_log.specs.PlainValues.{MakeMap}
-use Rattle.cert_checker.proofs.InducedMaps.{states-values, induced-from}
-use Rattle.cert_checker.proofs.MapDecisions.{bare, lifted-states-bare}
+use Rattle.cert_checker.proofs.mapping.InducedMaps.{states-values, induced-from}
+use Rattle.cert_checker.proofs.mapping.MapDecisions.{bare, lifted-states-bare}
 use Rattle.cert_checker.proofs.endos.induces.Goals as goal
 
 pub evaluate_each-requires-clause-letters : goal.evaluate_each-requires-clause-letters

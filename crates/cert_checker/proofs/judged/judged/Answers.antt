@@ -1,5 +1,5 @@
 use Rattle.std.proofs.Common.{[]}
-use Rattle.cert_checker.proofs.Judging.{first-here}
+use Rattle.cert_checker.proofs.judging.Judging.{first-here}
 use Rattle.cert_checker.proofs.judged.judged.Goals as goal
 
 pub returns-else-keeps-clause-refused : goal.returns-else-keeps-clause-refused

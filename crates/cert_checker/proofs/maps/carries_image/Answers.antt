@@ -6,9 +6,9 @@ use Rattle.pc_presentation.specs.Rowed.{flat}
 use Rattle.pc_presentation.specs.Syllable.{AreGenerators}
 use Rattle.pc_presentation.specs.Tailed.{rowed_presentation}
 use Rattle.cert_checker.specs.MapWords.{words_of}
-use Rattle.cert_checker.proofs.DefinitionWords.{words_of-read}
-use Rattle.cert_checker.proofs.RelationWords.{sides-decided}
-use Rattle.cert_checker.proofs.ImageWords.{image-letters, image-generators}
+use Rattle.cert_checker.proofs.words.DefinitionWords.{words_of-read}
+use Rattle.cert_checker.proofs.words.RelationWords.{sides-decided}
+use Rattle.cert_checker.proofs.words.ImageWords.{image-letters, image-generators}
 use Rattle.cert_checker.proofs.maps.carries_image.Goals as goal
 
 pub multiply_out-requires-clause-generators : goal.multiply_out-requires-clause-generators

@@ -8,7 +8,7 @@ use Rattle.p_cover.specs.Images.{lifted_images}
 use Rattle.p_cover.proofs.PartLaws.{no_entries}
 use Rattle.p_cover.proofs.ImageStates.{lifted-count}
 use Rattle.derivation_log.specs.PlainValues.{MakeMap, images_of}
-use Rattle.cert_checker.proofs.MapDecisions.{lifted-bare}
+use Rattle.cert_checker.proofs.mapping.MapDecisions.{lifted-bare}
 use Rattle.cert_checker.proofs.maps.make_map.Goals as goal
 
 pub cover_of-requires : goal.cover_of-requires

@@ -3,7 +3,7 @@ use Rattle.std.specs.Prelude.{All}
 use Rattle.pc_presentation.specs.Pcp.{TailedPresentation, IsTailedPresentation}
 use Rattle.pc_presentation.specs.Tailed.{IsElement}
 use Rattle.pq_base.specs.Answer.{Definition}
-use Rattle.cert_checker.proofs.MapDecisions.{made-decided}
+use Rattle.cert_checker.proofs.mapping.MapDecisions.{made-decided}
 use Rattle.cert_checker.proofs.maps.makes_map.Goals as goal
 
 pub returns-clause-made : goal.returns-clause-made

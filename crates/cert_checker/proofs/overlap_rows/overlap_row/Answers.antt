@@ -5,7 +5,7 @@ use Rattle.pc_presentation.specs.OverlapNumbers.{overlap_of}
 use Rattle.pc_presentation.specs.OverlapRows.{left_end, right_end}
 use Rattle.fp_rows.specs.Differences.{difference}
 use Rattle.p_cover.specs.Covers.{cover_presentation}
-use Rattle.cert_checker.proofs.SourceRows.{end_of_way, alike_ends}
+use Rattle.cert_checker.proofs.found_rows.SourceRows.{end_of_way, alike_ends}
 use Rattle.cert_checker.proofs.overlap_rows.overlap_row.Goals as goal
 
 pub returns-clause-agrees : goal.returns-clause-agrees

@@ -1,7 +1,7 @@
 use Rattle.std.proofs.Common.{ℕ, length, sym, subst, ◌∙◌}
 use Rattle.fp_rows.specs.Rows.{IsRow}
 use Rattle.derivation_log.specs.CertificateParts.{HasPlainRow}
-use Rattle.cert_checker.proofs.StepRows.{rows-more}
+use Rattle.cert_checker.proofs.found_rows.StepRows.{rows-more}
 use Rattle.cert_checker.proofs.rows.rows_of.Goals as goal
 
 pub returns-then-not-row_of-clause-none : goal.returns-then-not-row_of-clause-none

@@ -5,9 +5,9 @@ use Rattle.derivation_log.specs.declared.part.Part.TheVariants as part
 use Rattle.derivation_log.specs.CertificateParts.{full_kind, OverlapsAgree}
 use Rattle.derivation_log.proofs.JudgedOverlaps.{overlaps-consistent}
 use Rattle.cert_checker.specs.Judging.{parts_at, endo_trials, BuiltSoFar, IsRefusedAt}
-use Rattle.cert_checker.proofs.Judging.{one-passes, both-pass, refused-before, refused-behind}
-use Rattle.cert_checker.proofs.StepParts.{refuse-behind, refuse-before}
-use Rattle.cert_checker.proofs.RunSteps.{handed-on, on-ok}
+use Rattle.cert_checker.proofs.judging.Judging.{one-passes, both-pass, refused-before, refused-behind}
+use Rattle.cert_checker.proofs.judging.StepParts.{refuse-behind, refuse-before}
+use Rattle.cert_checker.proofs.judging.RunSteps.{handed-on, on-ok}
 use Rattle.cert_checker.proofs.run.judge_end.Goals as goal
 
 pub returns-in_err-judge_length-clause-refused : goal.returns-in_err-judge_length-clause-refused

@@ -1,4 +1,4 @@
-use Rattle.cert_checker.proofs.RunParts.{names-built}
+use Rattle.cert_checker.proofs.judging.RunParts.{names-built}
 use Rattle.cert_checker.proofs.run.judge_endos.Goals as goal
 
 pub induce-requires-clause-names : goal.induce-requires-clause-names

@@ -2,9 +2,9 @@ use Rattle.std.proofs.Common.{◌∷◌, [], length, ap, ◌∙◌, subst}
 use Rattle.pq_base.specs.LPresentation.{LPresentation, AreWords}
 use Rattle.derivation_log.specs.declared.part.Part.TheVariants as part
 use Rattle.cert_checker.specs.Judging.{parts_at, endo_trials}
-use Rattle.cert_checker.proofs.Judging.{one-passes}
-use Rattle.cert_checker.proofs.StepParts.{refuse-behind, refuse-before}
-use Rattle.cert_checker.proofs.RunParts.{words-built}
+use Rattle.cert_checker.proofs.judging.Judging.{one-passes}
+use Rattle.cert_checker.proofs.judging.StepParts.{refuse-behind, refuse-before}
+use Rattle.cert_checker.proofs.judging.RunParts.{words-built}
 use Rattle.cert_checker.proofs.run.judge_maps.Goals as goal
 
 pub carries-requires-clause-letters : goal.carries-requires-clause-letters

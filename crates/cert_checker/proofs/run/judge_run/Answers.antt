@@ -3,8 +3,8 @@ use Rattle.derivation_log.specs.declared.part.Part.TheVariants as part
 use Rattle.derivation_log.specs.Certificates.{steps_of}
 use Rattle.derivation_log.specs.Validity.{run_trials}
 use Rattle.cert_checker.specs.Judging.{parts_at, endo_trials, trials_of_steps, IsRefusedAt}
-use Rattle.cert_checker.proofs.Judging.{both-pass, refused-behind}
-use Rattle.cert_checker.proofs.RunSteps.{handed-on}
+use Rattle.cert_checker.proofs.judging.Judging.{both-pass, refused-behind}
+use Rattle.cert_checker.proofs.judging.RunSteps.{handed-on}
 use Rattle.cert_checker.proofs.run.judge_run.Goals as goal
 
 pub returns-in_err-judge_end-clause-refused : goal.returns-in_err-judge_end-clause-refused

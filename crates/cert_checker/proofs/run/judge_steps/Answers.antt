@@ -1,7 +1,7 @@
 use Rattle.std.proofs.Common.{◌<◌, List, length, subst}
 use Rattle.derivation_log.specs.Certificates.{StepLines, steps_of}
 use Rattle.cert_checker.specs.Judging.{IsRefusedAt, trials_of_steps}
-use Rattle.cert_checker.proofs.RunSteps.{steps-none, steps-more, steps-refused, handed-on}
+use Rattle.cert_checker.proofs.judging.RunSteps.{steps-none, steps-more, steps-refused, handed-on}
 use Rattle.cert_checker.proofs.run.judge_steps.Goals as goal
 
 pub loop-done-init : goal.loop-done-init

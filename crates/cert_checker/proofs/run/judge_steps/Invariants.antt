@@ -1,4 +1,4 @@
-use Rattle.cert_checker.proofs.RunSteps.{IsStepsDone}
+use Rattle.cert_checker.proofs.judging.RunSteps.{IsStepsDone}
 use Rattle.cert_checker.proofs.run.judge_steps.Given as goal
 
 -- the steps so far pass

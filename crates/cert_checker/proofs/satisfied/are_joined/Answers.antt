@@ -1,4 +1,4 @@
-use Rattle.cert_checker.proofs.RelationWords.{joined-decided}
+use Rattle.cert_checker.proofs.words.RelationWords.{joined-decided}
 use Rattle.cert_checker.proofs.satisfied.are_joined.Goals as goal
 
 pub returns : goal.returns

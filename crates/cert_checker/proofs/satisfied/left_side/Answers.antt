@@ -1,6 +1,6 @@
 use Rattle.std.proofs.Common.{◌∙◌, ap}
 use Rattle.pq_base.specs.Presentation.{Presentation}
-use Rattle.cert_checker.proofs.RelationWords.{power-side, commutator-side}
+use Rattle.cert_checker.proofs.words.RelationWords.{power-side, commutator-side}
 use Rattle.cert_checker.proofs.satisfied.left_side.Goals as goal
 
 pub returns-in-Power-clause-value : goal.returns-in-Power-clause-value

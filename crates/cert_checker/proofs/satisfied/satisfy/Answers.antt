@@ -8,7 +8,7 @@ use Rattle.pc_presentation.specs.Syllable.{AreGenerators}
 use Rattle.pc_presentation.specs.Tailed.{rowed_presentation}
 use Rattle.pc_presentation.proofs.presentations.RelationSides.{side-generators}
 use Rattle.cert_checker.specs.MapWords.{words_of, left_word}
-use Rattle.cert_checker.proofs.RelationWords.{sides-decided, right-letters}
+use Rattle.cert_checker.proofs.words.RelationWords.{sides-decided, right-letters}
 use Rattle.cert_checker.proofs.satisfied.satisfy.Goals as goal
 
 pub multiply_out-requires-clause-generators : goal.multiply_out-requires-clause-generators

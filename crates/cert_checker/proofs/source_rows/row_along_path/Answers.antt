@@ -1,6 +1,6 @@
 use Rattle.std.proofs.Common.{◌≡◌, ◌≤◌, length, sym, subst, arith}
 use Rattle.cert_checker.specs.StepRows.{AreToolsFor}
-use Rattle.cert_checker.proofs.SourceRows.{decided-nowhere, decided-onward}
+use Rattle.cert_checker.proofs.found_rows.SourceRows.{decided-nowhere, decided-onward}
 use Rattle.cert_checker.proofs.source_rows.row_along_path.Goals as goal
 
 pub returns-then-is_empty-clause-decided : goal.returns-then-is_empty-clause-decided

@@ -1,6 +1,6 @@
 use Rattle.std.proofs.Common.{◌-◌, length, ap, sym, subst, arith}
 use Rattle.cert_checker.specs.StepRows.{NamesRelator}
-use Rattle.cert_checker.proofs.SourceRows.{letters_of_listed, overlap-decided}
+use Rattle.cert_checker.proofs.found_rows.SourceRows.{letters_of_listed, overlap-decided}
 use Rattle.derivation_log.specs.declared.source.RowSource.{RowSource}
 use Rattle.derivation_log.specs.CertificateParts.{HasPlainRow}
 use Rattle.std.proofs.Common.{◌↔◌, IsTrue}

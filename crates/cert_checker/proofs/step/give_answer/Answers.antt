@@ -2,8 +2,8 @@ use Rattle.std.proofs.Common.{ap, sym, subst, arith}
 use Rattle.pc_presentation.specs.Pcp.{TailedPresentation}
 use Rattle.std.specs.Prelude.{All}
 use Rattle.cover_quotient.specs.NextParts.{IsPlace}
-use Rattle.cert_checker.proofs.LineCombinations.{kept-places}
-use Rattle.cert_checker.proofs.StepParts.{gives-decided}
+use Rattle.cert_checker.proofs.summing.LineCombinations.{kept-places}
+use Rattle.cert_checker.proofs.judging.StepParts.{gives-decided}
 use Rattle.cert_checker.proofs.step.give_answer.Goals as goal
 
 pub may_all_be_kept-requires : goal.may_all_be_kept-requires

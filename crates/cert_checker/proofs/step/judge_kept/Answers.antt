@@ -1,7 +1,7 @@
 use Rattle.std.proofs.Common.{[], ◌∷◌}
 use Rattle.derivation_log.specs.declared.part.Part.TheVariants as part
 use Rattle.cert_checker.specs.Judging.{parts_at}
-use Rattle.cert_checker.proofs.StepParts.{part-passes, pass-behind, refuse-behind, refuse-before}
+use Rattle.cert_checker.proofs.judging.StepParts.{part-passes, pass-behind, refuse-behind, refuse-before}
 use Rattle.cert_checker.proofs.step.judge_kept.Goals as goal
 
 pub returns-in_err-judge_rows-clause-refused : goal.returns-in_err-judge_rows-clause-refused

@@ -1,5 +1,5 @@
 use Rattle.std.proofs.Common.{length, refl, arith}
-use Rattle.cert_checker.proofs.StepParts.{step-here, over-lines, over-class, built-next}
+use Rattle.cert_checker.proofs.judging.StepParts.{step-here, over-lines, over-class, built-next}
 use Rattle.cert_checker.proofs.step.judge_over.Goals as goal
 
 pub next-requires-clause-lines : goal.next-requires-clause-lines

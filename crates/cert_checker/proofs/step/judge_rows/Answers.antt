@@ -5,8 +5,9 @@ use Rattle.derivation_log.specs.declared.part.Part.TheVariants as part
 use Rattle.derivation_log.specs.CertificateParts.{HasPlainRow}
 use Rattle.cert_checker.specs.StepRows.{ArePlainRows}
 use Rattle.cert_checker.specs.Judging.{parts_at}
-use Rattle.cert_checker.proofs.Judging.{first-here, one-passes}
-use Rattle.cert_checker.proofs.StepParts.{part-passes, pass-behind, refuse-behind, over-names, over-named, over-lines, over-shapes, over-count, over-rows, over-sums, over-none}
+use Rattle.cert_checker.proofs.judging.Judging.{first-here, one-passes}
+use Rattle.cert_checker.proofs.judging.StepParts.{part-passes, pass-behind, refuse-behind, over-names, over-named, over-lines, over-shapes}
+use Rattle.cert_checker.proofs.judging.StepParts.{over-count, over-rows, over-sums, over-none}
 use Rattle.cert_checker.proofs.step.judge_rows.Goals as goal
 
 pub rows_of-requires-clause-names : goal.rows_of-requires-clause-names

@@ -2,8 +2,8 @@ use Rattle.std.proofs.Common.{◌+◌, ◌∷◌, [], ap, ◌∙◌}
 use Rattle.cover_quotient.specs.Stages.{full_cover_of}
 use Rattle.derivation_log.specs.declared.part.Part.TheVariants as part
 use Rattle.cert_checker.specs.Judging.{parts_at, BuiltSoFar}
-use Rattle.cert_checker.proofs.Judging.{one-passes}
-use Rattle.cert_checker.proofs.StepParts.{pass-behind, refuse-behind, refuse-before, cover-next}
+use Rattle.cert_checker.proofs.judging.Judging.{one-passes}
+use Rattle.cert_checker.proofs.judging.StepParts.{pass-behind, refuse-behind, refuse-before, cover-next}
 use Rattle.cert_checker.proofs.step.judge_step.Goals as goal
 
 pub returns-in_err-judge_extra-clause-refused : goal.returns-in_err-judge_extra-clause-refused

@@ -1,4 +1,4 @@
-use Rattle.cert_checker.proofs.SumSteps.{raised-none, raised-factor, raised-first, raised-last, raised-alike, raised-more}
+use Rattle.cert_checker.proofs.summing.SumSteps.{raised-none, raised-factor, raised-first, raised-last, raised-alike, raised-more}
 use Rattle.cert_checker.proofs.sums.add_entries.Goals as goal
 
 pub loop-pair-init : goal.loop-pair-init

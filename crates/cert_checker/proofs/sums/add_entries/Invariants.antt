@@ -1,4 +1,4 @@
-use Rattle.cert_checker.proofs.SumSteps.{IsRaisedSoFar}
+use Rattle.cert_checker.proofs.summing.SumSteps.{IsRaisedSoFar}
 use Rattle.cert_checker.proofs.sums.add_entries.Given as goal
 
 -- the entries of the pairs so far

@@ -1,4 +1,4 @@
-use Rattle.cert_checker.proofs.SumSteps.{sum-none, sum-from_one, sum-inside, sum-prime, sum-width, sum-factor, sum-more}
+use Rattle.cert_checker.proofs.summing.SumSteps.{sum-none, sum-from_one, sum-inside, sum-prime, sum-width, sum-factor, sum-more}
 use Rattle.cert_checker.proofs.sums.add_multiples.Goals as goal
 
 pub loop-pair-init : goal.loop-pair-init

@@ -1,4 +1,4 @@
-use Rattle.cert_checker.proofs.SumSteps.{IsSumSoFar}
+use Rattle.cert_checker.proofs.summing.SumSteps.{IsSumSoFar}
 use Rattle.cert_checker.proofs.sums.add_multiples.Given as goal
 
 -- the sum of the pairs so far

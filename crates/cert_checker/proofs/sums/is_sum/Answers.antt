@@ -5,7 +5,7 @@ use Rattle.fp_echelon.specs.Span.{combine}
 use Rattle.derivation_log.specs.CertificateRuns.{row_of_pairs}
 use Rattle.cert_checker.specs.StepRows.{entries_of}
 use Rattle.cert_checker.specs.SumLines.{raised}
-use Rattle.cert_checker.proofs.SumSteps.{zeros-alike, zeros-own, pairs-of, line-decided}
+use Rattle.cert_checker.proofs.summing.SumSteps.{zeros-alike, zeros-own, pairs-of, line-decided}
 use Rattle.cert_checker.proofs.sums.is_sum.Goals as goal
 
 pub add_multiples-requires-clause-sum : goal.add_multiples-requires-clause-sum

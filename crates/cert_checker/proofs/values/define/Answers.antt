@@ -1,5 +1,5 @@
 use Rattle.std.proofs.Common.{◌∙◌}
-use Rattle.cert_checker.proofs.DefinitionWords.{image-stands, commutator-stands, power-stands}
+use Rattle.cert_checker.proofs.words.DefinitionWords.{image-stands, commutator-stands, power-stands}
 use Rattle.cert_checker.proofs.values.define.Goals as goal
 
 pub returns-in-Image-clause-value : goal.returns-in-Image-clause-value

@@ -4,8 +4,8 @@ use Rattle.std.proofs.lemmas.List.Elements.{All-set}
 use Rattle.pq_base.specs.Presentation.{Presentation}
 use Rattle.pc_presentation.specs.Tailed.{IsElement}
 use Rattle.pc_presentation.specs.Definition.{definition_of}
-use Rattle.cert_checker.proofs.DefinitionWords.{copied-element}
-use Rattle.cert_checker.proofs.DefinedWords.{defined-more}
+use Rattle.cert_checker.proofs.words.DefinitionWords.{copied-element}
+use Rattle.cert_checker.proofs.words.DefinedWords.{defined-more}
 use Rattle.cert_checker.proofs.values.define_all.Goals as goal
 
 pub loop-k-preserved : goal.loop-k-preserved

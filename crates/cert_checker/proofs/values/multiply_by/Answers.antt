@@ -1,4 +1,4 @@
-use Rattle.cert_checker.proofs.DefinitionWords.{multiplied-stands}
+use Rattle.cert_checker.proofs.words.DefinitionWords.{multiplied-stands}
 use Rattle.cert_checker.proofs.values.multiply_by.Goals as goal
 
 pub returns-clause-value : goal.returns-clause-value

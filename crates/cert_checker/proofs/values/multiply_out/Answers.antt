@@ -1,7 +1,7 @@
 use Rattle.pc_presentation.specs.Syllable.{syllable}
 use Rattle.cert_checker.specs.MapWords.{words_of}
-use Rattle.cert_checker.proofs.DefinitionWords.{cleared-stands}
-use Rattle.cert_checker.proofs.DefinedWords.{value-more}
+use Rattle.cert_checker.proofs.words.DefinitionWords.{cleared-stands}
+use Rattle.cert_checker.proofs.words.DefinedWords.{value-more}
 use Rattle.cert_checker.proofs.values.multiply_out.Goals as goal
 
 pub loop-syllable-init : goal.loop-syllable-init

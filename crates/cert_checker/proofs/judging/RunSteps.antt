@@ -1,5 +1,6 @@
 -- The steps of a run pass one after the other, up to the first part that fails.
-use Rattle.std.proofs.Common.{◌≡◌, ◌≢◌, ◌<◌, ◌≤◌, ◌+◌, ◌-◌, ℕ, zero, suc, Result, Ok, Err, IsErrAnd, IfErr, OnOk, List, [], ◌∷◌, ◌++◌, ap, sym, ◌∙◌, subst, arith, append-nil}
+use Rattle.std.proofs.Common.{◌≡◌, ◌≢◌, ◌<◌, ◌≤◌, ◌+◌, ◌-◌, ℕ, zero, suc, Result, Ok, Err, IsErrAnd, IfErr, OnOk, List, [], ◌∷◌, ◌++◌, ap}
+use Rattle.std.proofs.Common.{sym, ◌∙◌, subst, arith, append-nil}
 use Rattle.std.specs.List.{flat_map}
 use Rattle.std.proofs.lemmas.List.Elements.{All-nil}
 use Rattle.std.proofs.lemmas.Grind.{flat_map-append}
@@ -14,7 +15,7 @@ use Rattle.derivation_log.specs.CertificateParts.{full_kind}
 use Rattle.derivation_log.specs.Validity.{Trial, Passes, step_trials}
 use Rattle.cert_checker.specs.declared.refusal.CheckRefusal.{CheckRefusal}
 use Rattle.cert_checker.specs.Judging.{AllPass, IsRefusedAt, BuiltSoFar, HasBuilt, trials_of_steps}
-use Rattle.cert_checker.proofs.Judging.{refused-before, refused-behind, both-pass}
+use Rattle.cert_checker.proofs.judging.Judging.{refused-before, refused-behind, both-pass}
 
 -- the first k steps of a run pass, and what they build
 pub record IsStepsDone (c : Certificate) (run : Run) (k : ℕ) (b : BuiltSoFar) : Type 0 where

@@ -6,7 +6,7 @@ use Rattle.cover_quotient.specs.Stages.{full_cover_of}
 use Rattle.derivation_log.specs.declared.source.Run.{Run}
 use Rattle.derivation_log.specs.Certificates.{Certificate, steps_of}
 use Rattle.derivation_log.specs.CertificateParts.{built_by}
-use Rattle.cert_checker.proofs.BuiltAnswers.{built-names}
+use Rattle.cert_checker.proofs.judging.BuiltAnswers.{built-names}
 
 module _ (c : Certificate) (run : Run) (A : Answer) (built : A ≡ built_by full_cover_of c run) where
   pub names-built : (L : LPresentation) → L ≡ c.presentation → A.names ≡ L.names

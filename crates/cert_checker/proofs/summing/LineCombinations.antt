@@ -1,6 +1,7 @@
 -- What the lines of a step make of the tails: a tail with a line becomes its pairs, a kept tail becomes itself, and each row is one over
 -- the kept tails.
-use Rattle.std.proofs.Common.{◌≡◌, ◌≢◌, ◌<◌, ◌≤◌, ◌+◌, ◌-◌, ℕ, zero, suc, Bool, false, cond, eqb, ◌||◌, List, [], ◌∷◌, ◌++◌, get_or, length, map, filter, not, refl, ap, ap₂, sym, ◌∙◌, subst, arith, inl, inr, eq-eqb, ne_eqb, ⊎_elim}
+use Rattle.std.proofs.Common.{◌≡◌, ◌≢◌, ◌<◌, ◌≤◌, ◌+◌, ◌-◌, ℕ, zero, suc, Bool, false, cond, eqb, ◌||◌, List, [], ◌∷◌, ◌++◌, get_or, length}
+use Rattle.std.proofs.Common.{map, filter, not, refl, ap, ap₂, sym, ◌∙◌, subst, arith, inl, inr, eq-eqb, ne_eqb, ⊎_elim}
 use Rattle.std.specs.List.{All}
 use Rattle.std.specs.List.Sorted.{IsStrictlyIncreasing}
 use Rattle.std.proofs.lemmas.Bool.{cases_eq, cases_lt, cond_both, false_from_ne_true, false≢true}
@@ -23,14 +24,15 @@ use Rattle.p_cover.specs.Covers.{CoverOf}
 use Rattle.cover_quotient.specs.Kept.{is_listed, kept_columns, entries_at}
 use Rattle.cover_quotient.specs.Combinations.{AreCombinationsOf, AreKept}
 use Rattle.cover_quotient.specs.NextParts.{IsPlace}
-use Rattle.cover_quotient.proofs.carried_rows.UnitRows.{IsRow-unit_row, unit_row-one, unit_row-other, at_column-unit_row, at_column-unit_row_other}
+use Rattle.cover_quotient.proofs.carried_rows.UnitRows.{IsRow-unit_row, unit_row-one, unit_row-other, at_column-unit_row}
+use Rattle.cover_quotient.proofs.carried_rows.UnitRows.{at_column-unit_row_other}
 use Rattle.cover_quotient.proofs.kept_tails.KeptColumns.{IsKept, listed_pivot, all_kept, kept_columns_rise}
 use Rattle.derivation_log.specs.Certificates.{TailLine, StepLines}
 use Rattle.derivation_log.specs.CertificateRuns.{coefficient_in, row_of_pairs, tail_row, combinations_in}
 use Rattle.derivation_log.proofs.PairRows.{AllBelow-from_entries}
 use Rattle.cert_checker.specs.SumLines.{IsLineOver}
 use Rattle.cert_checker.specs.KeptTails.{tails_of, kept_tails, kept_row, IsLineOf}
-use Rattle.cert_checker.proofs.PairSums.{pairs-row}
+use Rattle.cert_checker.proofs.summing.PairSums.{pairs-row}
 
 -- the tails of lines as pivots
 abbrev as_rows : List TailLine → List BasisRow

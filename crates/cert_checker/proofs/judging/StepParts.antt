@@ -1,5 +1,6 @@
 -- What is found of a step says which of its parts pass.
-use Rattle.std.proofs.Common.{◌≡◌, ◌↔◌, ◌≤◌, ◌+◌, ◌-◌, ℕ, zero, suc, Bool, true, IsTrue, Result, Ok, Err, IsErrAnd, IfErr, OnOk, List, [], ◌∷◌, ◌++◌, get_or, length, ap, ap₂, sym, ◌∙◌, subst, arith}
+use Rattle.std.proofs.Common.{◌≡◌, ◌↔◌, ◌≤◌, ◌+◌, ◌-◌, ℕ, zero, suc, Bool, true, IsTrue, Result, Ok, Err, IsErrAnd, IfErr, OnOk, List, []}
+use Rattle.std.proofs.Common.{◌∷◌, ◌++◌, get_or, length, ap, ap₂, sym, ◌∙◌, subst, arith}
 use Rattle.std.specs.List.{All}
 use Rattle.std.proofs.lemmas.List.{length-map, get_or_default}
 use Rattle.std.proofs.lemmas.List.Elements.{All-nil, All-cons}
@@ -30,12 +31,12 @@ use Rattle.cert_checker.specs.declared.refusal.CheckRefusal.{CheckRefusal}
 use Rattle.derivation_log.proofs.RowSources.{rows_of-length}
 use Rattle.cert_checker.specs.StepRows.{NamesRelator, entries_of, IsRowFor, ArePlainRows}
 use Rattle.cert_checker.specs.SumLines.{IsLineOver}
-use Rattle.cert_checker.proofs.BuiltAnswers.{built-prime, built-names, built-class}
+use Rattle.cert_checker.proofs.judging.BuiltAnswers.{built-prime, built-names, built-class}
 use Rattle.cert_checker.specs.Judging.{AllPass, IsRefusedAt, parts_at, BuiltSoFar, HasBuilt}
-use Rattle.cert_checker.proofs.OneRow.{one_list_of_rows}
-use Rattle.cert_checker.proofs.SourceRows.{plain_arithmetic}
-use Rattle.cert_checker.proofs.StepForms.{have-rows, are-rows, step-sources, step-lines, all-named}
-use Rattle.cert_checker.proofs.Judging.{refused-before, refused-behind, one-passes, both-pass}
+use Rattle.cert_checker.proofs.found_rows.OneRow.{one_list_of_rows}
+use Rattle.cert_checker.proofs.found_rows.SourceRows.{plain_arithmetic}
+use Rattle.cert_checker.proofs.judging.StepForms.{have-rows, are-rows, step-sources, step-lines, all-named}
+use Rattle.cert_checker.proofs.judging.Judging.{refused-before, refused-behind, one-passes, both-pass}
 
 -- the rank
 pub gives-decided : (C : CoverOf) (s : StepLines) (kept : List ℕ) → kept ≡ kept_in C s → C.answer.presentation.rank + length kept ≤ max_rank

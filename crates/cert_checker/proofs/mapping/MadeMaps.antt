@@ -1,6 +1,7 @@
 -- Elements of a consistent answer make a map of another answer into it exactly where their words satisfy its relations and carry its
 -- images to their words.
-use Rattle.std.proofs.Common.{◌≡◌, ◌<◌, ◌+◌, ◌-◌, ℕ, zero, suc, ℤ, List, [], get_or, length, map, refl, ap, ap₂, sym, ◌∙◌, subst, arith, append_assoc}
+use Rattle.std.proofs.Common.{◌≡◌, ◌<◌, ◌+◌, ◌-◌, ℕ, zero, suc, ℤ, List, [], get_or, length, map, refl, ap, ap₂, sym, ◌∙◌, subst, arith}
+use Rattle.std.proofs.Common.{append_assoc}
 use Rattle.std.proofs.lemmas.List.{ext_get_or}
 use Rattle.pq_base.specs.SignedWord.{copies, comm, sub, HasLetters}
 use Rattle.pq_base.specs.Presentation.{Presentation, letter, power_word, commutator_word}
@@ -8,16 +9,20 @@ use Rattle.pq_base.specs.Joined.{Joined, IsConsistent}
 use Rattle.pq_base.specs.Answer.{Answer, Definition, IsAnswer, HasDefinition, definition_at, image_words}
 use Rattle.pq_base.specs.Answer.Definition.{image, commutator, power}
 use Rattle.pq_base.proofs.words.JoinedLaws.{joined-sym, joined-trans, joined-from_equal, joined-append, append-swap-joined}
-use Rattle.pq_base.proofs.words.LetterLaws.{HasLetters-copies, HasLetters-comm, HasLetters-letter, HasLetters-power_word, HasLetters-commutator_word}
+use Rattle.pq_base.proofs.words.LetterLaws.{HasLetters-copies, HasLetters-comm, HasLetters-letter, HasLetters-power_word}
+use Rattle.pq_base.proofs.words.LetterLaws.{HasLetters-commutator_word}
 use Rattle.cover_quotient.proofs.fitting.TailValues.{image_word-letters}
 use Rattle.pc_presentation.specs.Rowed.{without_rows, flat}
 use Rattle.pc_presentation.specs.Collection.{State, IsState, plain_push}
 use Rattle.pc_presentation.specs.Arithmetic.{word_of, evaluate_from}
 use Rattle.pc_presentation.proofs.rows.FlatLaws.{flat-without_rows}
 use Rattle.pc_presentation.proofs.quotients.WordValues.{value-state}
-use Rattle.derivation_log.specs.PlainValues.{identity_of, plain_product, plain_power, element_at, IsValue, HaveOneValue, IsDefinedValue, AreDefinedValues, MakeMap}
+use Rattle.derivation_log.specs.PlainValues.{identity_of, plain_product, plain_power, element_at, IsValue, HaveOneValue, IsDefinedValue}
+use Rattle.derivation_log.specs.PlainValues.{AreDefinedValues, MakeMap}
 use Rattle.derivation_log.proofs.PlainValues.{value-joined}
-use Rattle.derivation_log.proofs.PlainGroups.{AreElements, element-get_or, rowed-here, meaning-here, arithmetic-here, one-state, unflat, product-word, product-element, same-elements, value-known, inverse_list, images-inverted, word-at, power-element, power-joined}
+use Rattle.derivation_log.proofs.PlainGroups.{AreElements, element-get_or, rowed-here, meaning-here, arithmetic-here, one-state, unflat}
+use Rattle.derivation_log.proofs.PlainGroups.{product-word, product-element, same-elements, value-known, inverse_list, images-inverted}
+use Rattle.derivation_log.proofs.PlainGroups.{word-at, power-element, power-joined}
 use Rattle.cert_checker.specs.MapWords.{definition_word, AreDefinedWords, MakeMapOfWords}
 
 module _ (B A : Answer) (of : IsAnswer B) (is : IsAnswer A) where

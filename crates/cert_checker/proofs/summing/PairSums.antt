@@ -1,6 +1,8 @@
 -- Rows that are added one after the other, each times its coefficient, make the sum that pairs of numbers and coefficients say, and
 -- coefficients that are added at their columns make the row of the pairs.
-use Rattle.std.proofs.Common.{◌≡◌, ◌≢◌, ◌<◌, ◌≤◌, ◌+◌, ◌-◌, ◌*◌, ◌%◌, ℕ, zero, suc, Bool, true, false, cond, eqb, List, [], ◌∷◌, get_or, set, take, length, refl, ap, sym, ◌∙◌, subst, arith, inl, inr, eq-eqb, ne_eqb, ◌↔◌, eqb-true, mod-eq_of_lt, mul-zero, mul-one, add-zero, zero-add}
+use Rattle.std.proofs.Common.{◌≡◌, ◌≢◌, ◌<◌, ◌≤◌, ◌+◌, ◌-◌, ◌*◌, ◌%◌, ℕ, zero, suc, Bool, true, false, cond, eqb, List, [], ◌∷◌, get_or}
+use Rattle.std.proofs.Common.{set, take, length, refl, ap, sym, ◌∙◌, subst, arith, inl, inr, eq-eqb, ne_eqb, ◌↔◌, eqb-true, mod-eq_of_lt}
+use Rattle.std.proofs.Common.{mul-zero, mul-one, add-zero, zero-add}
 use Rattle.std.proofs.Math.Nat.{add-mod-mod, mod-add-mod, add_assoc}
 use Rattle.std.proofs.lemmas.Bool.{cases_eq, cond_both}
 use Rattle.std.proofs.lemmas.List.{ext_get_or, get_or-set_same, get_or-set_other, length-set}
@@ -12,7 +14,8 @@ use Rattle.fp_rows.specs.Rows.{IsRow, add_rows, scale_row, add_scaled}
 use Rattle.fp_rows.specs.Differences.{difference}
 use Rattle.fp_rows.proofs.RowLaws.{add_rows_comm, add_rows_assoc, scale_row-add, scale_row-mod, length-add_scaled, IsRow-add_rows}
 use Rattle.fp_rows.proofs.EntryLaws.{get_or-add_scaled, IsZeroRow-is_zeros, zeros-IsZeroRow}
-use Rattle.fp_rows.proofs.DifferenceLaws.{IsRow-difference, difference-self, add_rows-difference, difference-add_rows, equal_from_difference}
+use Rattle.fp_rows.proofs.DifferenceLaws.{IsRow-difference, difference-self, add_rows-difference, difference-add_rows}
+use Rattle.fp_rows.proofs.DifferenceLaws.{equal_from_difference}
 use Rattle.fp_echelon.specs.Span.{combine}
 use Rattle.pc_presentation.specs.Pcp.{unit_row}
 use Rattle.pc_presentation.proofs.rows.TailRowLaws.{length-unit_row}

@@ -23,7 +23,7 @@ use Rattle.pc_presentation.proofs.presentations.SyllableLaws.{letters_of-syllabl
 use Rattle.derivation_log.proofs.PlainGroups.{state-bare}
 use Rattle.cert_checker.specs.MapWords.{words_of, StandsFor, left_word, right_word}
 use Rattle.cert_checker.proofs.Tailless.{tailless}
-use Rattle.cert_checker.proofs.DefinitionWords.{words_of-read}
+use Rattle.cert_checker.proofs.words.DefinitionWords.{words_of-read}
 
 -- what a decision says of elements without rows
 abbrev Decided : RowedPresentation → State → State → Bool → Type 0

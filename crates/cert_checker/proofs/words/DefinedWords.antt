@@ -1,5 +1,6 @@
 -- The words of elements that are the values of definitions, one after the other, and of those that are values of normal words.
-use Rattle.std.proofs.Common.{◌≡◌, ◌≤◌, ◌<◌, ◌+◌, ◌-◌, ℕ, zero, suc, ℤ, pos, List, [], ◌∷◌, ◌++◌, get_or, length, map, set, take, refl, ap, ap₂, sym, ◌∙◌, subst, arith, append_assoc, eq-or-lt_of_le, inl, inr}
+use Rattle.std.proofs.Common.{◌≡◌, ◌≤◌, ◌<◌, ◌+◌, ◌-◌, ℕ, zero, suc, ℤ, pos, List, [], ◌∷◌, ◌++◌, get_or, length, map, set, take, refl, ap}
+use Rattle.std.proofs.Common.{ap₂, sym, ◌∙◌, subst, arith, append_assoc, eq-or-lt_of_le, inl, inr}
 use Rattle.std.proofs.lemmas.List.{get_or-set_same, get_or-set_other, map-set, take_more, append-nil}
 use Rattle.pq_base.specs.SignedWord.{copies, comm, sub}
 use Rattle.pq_base.specs.Joined.{Joined}
@@ -16,7 +17,7 @@ use Rattle.pc_presentation.specs.Pcp.{TailedPresentation}
 use Rattle.pc_presentation.specs.Tailed.{Element, rowed_presentation}
 use Rattle.pc_presentation.specs.ImageElements.{states_of}
 use Rattle.cert_checker.specs.MapWords.{words_of, StandsFor, definition_word, AreDefinedWords}
-use Rattle.cert_checker.proofs.DefinitionWords.{length-words_of}
+use Rattle.cert_checker.proofs.words.DefinitionWords.{length-words_of}
 
 -- words before place k stay where the word at place k is replaced
 word_at-set : (G : List (List ℤ)) (k j : ℕ) (w : List ℤ) → j ≤ k → word_at (set G k w) j ≡ word_at G j

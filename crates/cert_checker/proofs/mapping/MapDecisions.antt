@@ -24,7 +24,7 @@ use Rattle.derivation_log.specs.PlainValues.{bare_state, images_of, MakeMap}
 use Rattle.derivation_log.proofs.PlainGroups.{AreElements}
 use Rattle.cert_checker.specs.MapWords.{words_of, AreDefinedWords, MakeMapOfWords}
 use Rattle.cert_checker.proofs.Tailless.{tailless}
-use Rattle.cert_checker.proofs.MadeMaps.{made, words-make}
+use Rattle.cert_checker.proofs.mapping.MadeMaps.{made, words-make}
 
 -- the cover in which nothing carries a tail
 abbrev pub bare_cover : Answer → CoverOf

@@ -1,6 +1,7 @@
 -- The steps by which a line is judged: rows are added one after the other, then the coefficients of the kept tails at their columns, and
 -- then the tail is taken away.
-use Rattle.std.proofs.Common.{◌≡◌, ◌↔◌, ◌<◌, ◌≤◌, ◌+◌, ◌-◌, ℕ, zero, suc, Bool, IsTrue, List, [], ◌∷◌, get_or, take, length, map, refl, ap, ap₂, sym, ◌∙◌, subst, arith}
+use Rattle.std.proofs.Common.{◌≡◌, ◌↔◌, ◌<◌, ◌≤◌, ◌+◌, ◌-◌, ℕ, zero, suc, Bool, IsTrue, List, [], ◌∷◌, get_or, take, length, map, refl, ap}
+use Rattle.std.proofs.Common.{ap₂, sym, ◌∙◌, subst, arith}
 use Rattle.std.specs.List.{All}
 use Rattle.std.proofs.lemmas.List.{get_or-map, length-map, length-replicate}
 use Rattle.pq_base.specs.Canonical.{numbers_from}
@@ -20,7 +21,8 @@ use Rattle.derivation_log.specs.CertificateParts.{IsSumOfRows}
 use Rattle.derivation_log.proofs.PairRows.{length-row_of_pairs}
 use Rattle.cert_checker.specs.StepRows.{IsRowOver, IsRowFor, IsAlike, entries_of}
 use Rattle.cert_checker.specs.SumLines.{ArePairs, IsLineOver, raised}
-use Rattle.cert_checker.proofs.PairSums.{pairs-wider, pairs-row, pair-at, row_of_pairs-more, combine-raised, add_rows-raised, difference-unit, zero-difference}
+use Rattle.cert_checker.proofs.summing.PairSums.{pairs-wider, pairs-row, pair-at, row_of_pairs-more, combine-raised, add_rows-raised}
+use Rattle.cert_checker.proofs.summing.PairSums.{difference-unit, zero-difference}
 
 zero-coefficients : (a n : ℕ) → map (coefficient_in []) (numbers_from a n) ≡ zeros n
 zero-coefficients a zero = refl

@@ -23,7 +23,7 @@ use Rattle.p_cover.specs.ImagesAlong.{AreCarried, IsFoundAlong}
 use Rattle.derivation_log.specs.declared.source.RowSource.TheVariants.{Test}
 use Rattle.derivation_log.specs.RowSources.{IsRowAlong}
 use Rattle.derivation_log.specs.CertificateParts.{HasPlainRow}
-use Rattle.cert_checker.proofs.OneRow.{one_lift, one_carried}
+use Rattle.cert_checker.proofs.found_rows.OneRow.{one_lift, one_carried}
 
 -- the plain rule in a presentation with tails
 pub plain_arithmetic : (T : TailedPresentation) → IsTailedPresentation T

@@ -13,7 +13,9 @@ use Rattle.derivation_log.specs.declared.source.Run.{Run}
 use Rattle.derivation_log.specs.declared.source.Run.TheVariants.{Iterated, Whole}
 use Rattle.derivation_log.specs.RowSources.{IsRowOf, AreRowsOf}
 use Rattle.derivation_log.specs.Certificates.{TailLine, StepLines, Certificate, steps_of, step_of, presentation_of}
-use Rattle.derivation_log.specs.CertificateForms.{max_number, is_number_from, are_pairs, are_at_most, has_line, are_kept_below, is_tail_line, are_tail_lines, is_one_of, are_each_one_of, is_source_in, are_sources_in, are_steps_in, IsCertificate}
+use Rattle.derivation_log.specs.CertificateForms.{max_number, is_number_from, are_pairs, are_at_most, has_line, are_kept_below}
+use Rattle.derivation_log.specs.CertificateForms.{is_tail_line, are_tail_lines, is_one_of, are_each_one_of, is_source_in, are_sources_in}
+use Rattle.derivation_log.specs.CertificateForms.{are_steps_in, IsCertificate}
 use Rattle.derivation_log.specs.CertificateParts.{HasPlainRow}
 use Rattle.cert_checker.specs.StepRows.{NamesRelator}
 use Rattle.cert_checker.specs.SumLines.{ArePairs, IsLineOver}

@@ -1,5 +1,6 @@
 -- An endomorphism induces a map of a consistent answer into itself by the plain rule exactly where the values of its words make one.
-use Rattle.std.proofs.Common.{◌≡◌, ◌↔◌, ◌<◌, ◌+◌, ℕ, suc, ℤ, Bool, IsTrue, List, [], ◌∷◌, get_or, length, map, take, refl, ap, sym, ◌∙◌, subst, arith}
+use Rattle.std.proofs.Common.{◌≡◌, ◌↔◌, ◌<◌, ◌+◌, ℕ, suc, ℤ, Bool, IsTrue, List, [], ◌∷◌, get_or, length, map, take, refl, ap, sym, ◌∙◌}
+use Rattle.std.proofs.Common.{subst, arith}
 use Rattle.std.specs.List.{All}
 use Rattle.std.proofs.lemmas.List.{length-map, get_or-map, ext_get_or}
 use Rattle.std.proofs.lemmas.List.Elements.{All-more}

@@ -1,18 +1,9 @@
 // Words of a presentation as texts.
-ghost use Rattle.std.specs.Prelude.{◌≡◌, ◌≤◌, ◌++◌, OnOk, decimal};
+ghost use Rattle.std.specs.Prelude.{◌≡◌, ◌≤◌, ◌++◌, OnOk};
 ghost use Rattle.answer_text.specs.Words.{generator_text, exponent_text, syllable_text, further_text, word_text, AreExponents};
 
 use pc_presentation::Syllable;
-use pq_base::NoMemory;
-
-/// Writes a number in decimal digits.
-pub fn push_number(out: &mut Vec<u8>, n: u64) -> Result<(), NoMemory>
-    ensures { OnOk result (out.new.items ≡ out.old.items ++ decimal n) }
-{
-    let digits = format!(in *out.allocator(); "{n}")?;
-    out.extend_from_slice(digits.as_bytes())?;
-    Ok(())
-}
+use pq_base::{NoMemory, push_number};
 
 /// Writes a generator, counted from 1.
 pub fn push_generator(out: &mut Vec<u8>, k: u16) -> Result<(), NoMemory>

@@ -7,9 +7,9 @@ ghost use Rattle.pc_presentation.specs.Definition.{definition_of};
 ghost use Rattle.answer_text.specs.Words.{AreExponents, word_text};
 ghost use Rattle.answer_text.specs.AnswerText.{answer_text, head_lines, definition_text, generator_line, generator_lines, relation_lines, power_text, power_lines, commutator_text, commutator_row_lines, commutator_lines, image_line, image_lines};
 
-use crate::words::{push_generator, push_number, push_word};
+use crate::words::{push_generator, push_word};
 use pc_presentation::{Answer, Definition, Relation, Syllable};
-use pq_base::{Name, NoMemory};
+use pq_base::{Name, NoMemory, push_number};
 use std::alloc::Global;
 
 /// The text of an answer: every byte of it is determined by the answer.

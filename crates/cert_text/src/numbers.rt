@@ -1,18 +1,9 @@
 //! Numbers and paths of endomorphisms, as they are written.
 
-ghost use Rattle.std.specs.Prelude.{◌≡◌, ◌++◌, OnOk, codes, decimal};
+ghost use Rattle.std.specs.Prelude.{◌≡◌, ◌++◌, OnOk, codes};
 ghost use Rattle.cert_text.specs.CertificateText.{numbers_text, along_text};
 
-use pq_base::NoMemory;
-
-/// Writes a number in decimal digits.
-pub(crate) fn push_number(out: &mut Vec<u8>, n: u64) -> Result<(), NoMemory>
-    ensures { OnOk result (out.new.items ≡ out.old.items ++ decimal n) }
-{
-    let digits = format!(in *out.allocator(); "{n}")?;
-    out.extend_from_slice(digits.as_bytes())?;
-    Ok(())
-}
+use pq_base::{NoMemory, push_number};
 
 /// Writes the endomorphisms of a path, where it has any.
 pub(crate) fn push_along(out: &mut Vec<u8>, path: &[u8]) -> Result<(), NoMemory>

@@ -4,9 +4,8 @@ ghost use Rattle.std.specs.Prelude.{◌≡◌, ◌++◌, [], ◌∷◌, OnOk, ma
 ghost use Rattle.pq_base.specs.Lines.{text_of_lines};
 ghost use Rattle.cert_text.specs.CertificateText.{pair_text, further_pairs_text, pairs_text, kept_text, tail_line};
 
-use crate::numbers::push_number;
 use derivation_log::CertTail;
-use pq_base::NoMemory;
+use pq_base::{NoMemory, push_number};
 
 /// The lines of the tails that a step eliminates.
 pub(crate) fn push_tails(out: &mut Vec<u8>, lines: &[CertTail]) -> Result<(), NoMemory>

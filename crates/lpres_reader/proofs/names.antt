@@ -3,7 +3,6 @@ pub mod NamesLaws
 pub mod NamesSoFar
 pub mod NamedFronts
 pub mod KeptNames
-pub mod RepeatedNames
 pub mod Places
 pub mod GeneratorLines
 pub mod GeneratorSearch

@@ -1,6 +1,8 @@
 -- The canonical text of a presentation: one line for its generators, one for each relator, and one for each endomorphism.
-use Rattle.std.specs.Prelude.{ℕ, zero, suc, ℤ, pos, negsuc, unsigned_abs, ◌==◌, if◌then◌else◌, List, [], ◌∷◌, ◌++◌, get_or, map, codes, decimal}
+use Rattle.std.specs.Prelude.{ℕ, suc, ℤ, pos, negsuc, unsigned_abs, ◌==◌, if◌then◌else◌, List, [], ◌∷◌, ◌++◌, map, codes, decimal}
 use Rattle.pq_base.specs.LPresentation.{LPresentation}
+use Rattle.pq_base.specs.Lines.{text_of_lines}
+use Rattle.pq_base.specs.Name.{name_text}
 use Rattle.lpres_reader.specs.declared.canonical.Run.{Run}
 use Rattle.lpres_reader.specs.Runs.{runs_of}
 
@@ -13,11 +15,6 @@ preceded s (t ∷ ts) = s ++ (t ++ preceded s ts)
 abbrev pub separated : List ℕ → List (List ℕ) → List ℕ
 separated s [] = []
 separated s (t ∷ ts) = t ++ preceded s ts
-
--- name number i, counted from 1
-abbrev pub name_text : List (List ℕ) → ℕ → List ℕ
-name_text names zero = []
-name_text names (suc i) = get_or names i []
 
 -- the exponent of a run, which is left out for one generator
 abbrev pub exponent_text : ℤ → ℕ → List ℕ
@@ -64,11 +61,6 @@ canonical_lines L =
     ∷ (relator_lines (codes "fixed ") L.names L.fixed
     ++ (relator_lines (codes "iterated ") L.names L.iterated
     ++ endo_lines L.names L.endos))
-
--- the lines, each with a newline byte behind it
-abbrev pub text_of_lines : List (List ℕ) → List ℕ
-text_of_lines [] = []
-text_of_lines (l ∷ ls) = l ++ 10 ∷ text_of_lines ls
 
 unfoldable pub canonical_text : LPresentation → List ℕ
 canonical_text L = text_of_lines (canonical_lines L)

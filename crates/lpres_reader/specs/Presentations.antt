@@ -1,5 +1,5 @@
 -- An L-presentation of the parts that a value holds.
-use Rattle.std.specs.Prelude.{◌≤◌, ℕ, ℤ, List, [], length, All, map, sum_by}
+use Rattle.std.specs.Prelude.{◌≤◌, ℕ, ℤ, List, length, All, map, sum_by}
 use Rattle.std.specs.Global.{Vec}
 use Rattle.lpres_reader.specs.Limits.{letters_in}
 use Rattle.pq_base.specs.Name.{IsName}
@@ -13,10 +13,6 @@ pub record AreGenerators (names : List (List ℕ)) : Type 0 where
   pub each : All IsName names
   pub most : length names ≤ 32
   pub distinct : AreDistinct names
-
--- generators without relators
-abbrev pub free_of : List (List ℕ) → LPresentation
-free_of names = record { names = names; fixed = []; iterated = []; endos = [] }
 
 -- the letters of all images, of lists as a value holds them
 abbrev pub endo_letters : List (Vec (List ℤ)) → ℕ

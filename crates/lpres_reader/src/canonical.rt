@@ -1,15 +1,17 @@
 //! Writing a presentation: its canonical text.
 
-ghost use Rattle.std.specs.Prelude.{◌≡◌, ◌++◌, ◌-◌, ◌^◌, ◌<◌, ◌≤◌, [], ◌∷◌, OnOk, IfOk, IfSome, MatchOption, codes, decimal, length, map};
+ghost use Rattle.std.specs.Prelude.{◌≡◌, ◌++◌, ◌-◌, ◌^◌, ◌<◌, ◌≤◌, [], ◌∷◌, OnOk, IfOk, IfSome, MatchOption, codes, length, map};
 ghost use Rattle.std.specs.List.{prefix_len};
 ghost use Rattle.std.specs.Ordering.{int_eq};
+ghost use Rattle.pq_base.specs.Name.{name_text};
+ghost use Rattle.pq_base.specs.Lines.{text_of_lines};
 ghost use Rattle.lpres_reader.specs.Runs.{runs_of};
 ghost use Rattle.lpres_reader.specs.Reads.{Reads};
-ghost use Rattle.lpres_reader.specs.CanonicalText.{preceded, separated, name_text, exponent_text, run_text, word_text, generators_line, relator_lines, arrow_text, arrow_texts, endo_line, endo_lines, text_of_lines, canonical_text};
+ghost use Rattle.lpres_reader.specs.CanonicalText.{preceded, separated, exponent_text, run_text, word_text, generators_line, relator_lines, arrow_text, arrow_texts, endo_line, endo_lines, canonical_text};
 
 use crate::presentation::LPres;
 use free_words::Word;
-use pq_base::{Name, NoMemory};
+use pq_base::{Name, NoMemory, push_number};
 use std::alloc::Global;
 
 /// A letter, and how often it comes.
@@ -181,20 +183,11 @@ fn push_exponent(out: &mut Vec<u8>, letter: i32, size: usize) -> Result<(), NoMe
 {
     if letter < 0 {
         out.extend_from_slice(b"^-")?;
-        push_number(out, size)
+        push_number(out, size as u64)
     } else if size == 1 {
         Ok(())
     } else {
         out.push(b'^')?;
-        push_number(out, size)
+        push_number(out, size as u64)
     }
-}
-
-/// A number in decimal digits.
-fn push_number(out: &mut Vec<u8>, n: usize) -> Result<(), NoMemory>
-    ensures { OnOk result (out.new.items ≡ out.old.items ++ decimal n) }
-{
-    let digits = format!(in *out.allocator(); "{n}")?;
-    out.extend_from_slice(digits.as_bytes())?;
-    Ok(())
 }

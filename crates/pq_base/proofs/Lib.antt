@@ -21,6 +21,7 @@ pub mod NumberLists
 pub mod PrimeLaws
 pub mod LineLaws
 pub mod ListMembers
+pub mod DistinctNames
 pub mod words
 pub mod tables
 pub mod KilledWords

@@ -4,6 +4,7 @@
 #![tactic(auto)]
 
 pub mod class_one;
+pub mod decimal;
 pub mod laws;
 pub mod limits;
 pub mod name;
@@ -12,6 +13,7 @@ pub mod prime;
 pub mod refusal;
 pub mod status;
 
+pub use decimal::push_number;
 pub use name::{Name, names_copied};
 pub use path::Path;
 pub use prime::Prime;

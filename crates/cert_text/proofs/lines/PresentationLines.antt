@@ -6,8 +6,9 @@ use Rattle.std.specs.List.{AllByRecursion}
 use Rattle.std.proofs.lemmas.List.Elements.{All-head, All-tail}
 use Rattle.pq_base.specs.LPresentation.{LPresentation, AreWords, AreEndos}
 use Rattle.pq_base.specs.Name.{IsName}
+use Rattle.pq_base.specs.Lines.{text_of_lines}
 use Rattle.lpres_reader.specs.CanonicalText.{word_text, generators_line, relator_lines, endo_line, endo_lines, canonical_lines}
-use Rattle.lpres_reader.specs.CanonicalText.{canonical_text, text_of_lines}
+use Rattle.lpres_reader.specs.CanonicalText.{canonical_text}
 use Rattle.lpres_reader.specs.Limits.{AreShort}
 use Rattle.lpres_reader.specs.Reads.{Reads}
 use Rattle.lpres_reader.specs.Tokens.{Token}

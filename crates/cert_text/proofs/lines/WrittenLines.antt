@@ -6,7 +6,7 @@ use Rattle.pq_base.specs.Lines.{text_of_lines}
 use Rattle.pq_base.specs.LPresentation.{LPresentation}
 use Rattle.pq_base.specs.Answer.{Answer}
 use Rattle.pq_base.proofs.LineLaws.{text_of_lines-append, text_of_lines-part}
-use Rattle.lpres_reader.specs.CanonicalText.{canonical_lines, canonical_text, text_of_lines as text_of_presentation_lines}
+use Rattle.lpres_reader.specs.CanonicalText.{canonical_lines, canonical_text}
 use Rattle.answer_text.specs.AnswerText.{answer_text}
 use Rattle.answer_text.specs.AnswerPlaces.{prime_line, class_line}
 use Rattle.derivation_log.specs.declared.source.Run.TheVariants.{Whole}
@@ -51,13 +51,9 @@ step-next k j ss s out new all next h e written so_far =
     text_of_lines-part out new all (step_lines j s) (steps_lines k (drop k ss)) (steps_lines j (drop j ss)) written
     (steps_lines-next k j ss next h ∙ ap (λ (x : StepLines). step_lines j x ++ steps_lines j (drop j ss)) (sym e)) so_far
 
-text_of_lines-presentation : (ls : List (List ℕ)) → text_of_presentation_lines ls ≡ text_of_lines ls
-text_of_lines-presentation [] = refl
-text_of_lines-presentation (l ∷ ls) = ap (λ (t : List ℕ). l ++ 10 ∷ t) (text_of_lines-presentation ls)
-
 pub canonical_text-lines : (L : LPresentation) → canonical_text L ≡ text_of_lines (canonical_lines L)
 unfolding canonical_text
-canonical_text-lines L = text_of_lines-presentation (canonical_lines L)
+canonical_text-lines L = refl
 
 five_parts : (v : List ℕ) (a b c d : List (List ℕ)) → text_of_lines (v ∷ (a ++ (b ++ (c ++ d))))
     ≡ (v ++ 10 ∷ []) ++ (text_of_lines a ++ (text_of_lines b ++ (text_of_lines c ++ text_of_lines d)))

@@ -7,13 +7,15 @@ use Rattle.std.proofs.lemmas.Fmt.{length-decimal-le}
 use Rattle.std.proofs.lemmas.List.Elements.{All-head, All-tail}
 use Rattle.std.proofs.lemmas.List.Sums.{sum_by-cons}
 use Rattle.pq_base.specs.LPresentation.{AreEndos}
+use Rattle.pq_base.specs.Name.{name_text}
+use Rattle.pq_base.specs.Lines.{text_of_lines}
+use Rattle.pq_base.proofs.LineLaws.{text_of_lines-append}
 use Rattle.lpres_reader.specs.declared.canonical.Run.{Run}
 use Rattle.lpres_reader.specs.Runs.{onto_run, onto_runs, runs_of}
-use Rattle.lpres_reader.specs.CanonicalText.{preceded, name_text, exponent_text, run_text, runs_text, word_text, generators_line, relator_lines, arrow_text, arrow_texts, endo_line, endo_lines, text_of_lines, canonical_text}
+use Rattle.lpres_reader.specs.CanonicalText.{preceded, exponent_text, run_text, runs_text, word_text, generators_line, relator_lines, arrow_text, arrow_texts, endo_line, endo_lines, canonical_text}
 use Rattle.lpres_reader.specs.Limits.{AreShort, letters_in}
 use Rattle.lpres_reader.specs.ReaderLaws.{CanonicalTextsAreShort}
 use Rattle.lpres_reader.proofs.canonical_texts.RunWords.{sizes, sizes-runs_of}
-use Rattle.lpres_reader.proofs.canonical_texts.WrittenLines.{text_of_lines-append}
 
 -- there are at most as many runs as letters
 length-onto_run : (b : Bool) (k : ℤ) (r : Run) (rs : List Run) → length (onto_run b k r rs) ≤ suc (suc (length rs))

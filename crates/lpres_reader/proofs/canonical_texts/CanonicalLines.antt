@@ -8,10 +8,11 @@ use Rattle.std.proofs.lemmas.List.Folds.{list_all-append}
 use Rattle.pq_base.specs.LPresentation.{AreWords}
 use Rattle.pq_base.specs.Name.{is_name_byte, IsName, IsNameText}
 use Rattle.pq_base.specs.SignedWord.{HasLetters}
+use Rattle.pq_base.specs.Name.{name_text}
 use Rattle.lpres_reader.specs.declared.canonical.Run.{Run}
 use Rattle.lpres_reader.specs.declared.token.Symbol.TheVariants.{Arrow, Caret, Comma}
 use Rattle.lpres_reader.specs.Runs.{runs_of}
-use Rattle.lpres_reader.specs.CanonicalText.{preceded, name_text, word_text, generators_line, arrow_text, arrow_texts, endo_line}
+use Rattle.lpres_reader.specs.CanonicalText.{preceded, word_text, generators_line, arrow_text, arrow_texts, endo_line}
 use Rattle.lpres_reader.specs.Lines.{is_skipped}
 use Rattle.lpres_reader.specs.Tokens.{Token, name, number, symbol, StopsBefore, ReadsTokens, no_more, blank_first, name_first, symbol_first}
 use Rattle.lpres_reader.specs.Items as items

@@ -6,7 +6,8 @@ use Rattle.std.proofs.lemmas.List.Splits.{slice_split_at}
 use Rattle.pq_base.specs.LPresentation.{LPresentation, IsLPresentation, AreWords, AreEndos}
 use Rattle.pq_base.specs.Name.{IsName}
 use Rattle.pq_base.specs.SignedWord.{HasLetters}
-use Rattle.lpres_reader.specs.CanonicalText.{word_text, generators_line, relator_lines, endo_lines, text_of_lines, canonical_text}
+use Rattle.pq_base.specs.Lines.{text_of_lines}
+use Rattle.lpres_reader.specs.CanonicalText.{word_text, generators_line, relator_lines, endo_lines, canonical_text}
 use Rattle.lpres_reader.specs.Lines.{lines_of, content_of}
 use Rattle.lpres_reader.specs.Tokens.{Token}
 use Rattle.lpres_reader.specs.Items.{ReadsItem, Item, fixed, iterated, endo}

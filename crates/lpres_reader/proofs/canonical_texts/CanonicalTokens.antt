@@ -6,10 +6,11 @@ use Rattle.std.proofs.lemmas.Bool.Decides.{nat_tests}
 use Rattle.std.proofs.lemmas.List.Elements.{All-get_or}
 use Rattle.pq_base.specs.Name.{is_name_byte, IsName, IsNameText}
 use Rattle.pq_base.specs.SignedWord.{IsLetter, HasLetters}
+use Rattle.pq_base.specs.Name.{name_text}
 use Rattle.lpres_reader.specs.declared.canonical.Run.{Run}
 use Rattle.lpres_reader.specs.declared.token.Symbol.TheVariants.{Star, Caret, Minus}
 use Rattle.lpres_reader.specs.Runs.{runs_of}
-use Rattle.lpres_reader.specs.CanonicalText.{preceded, name_text, exponent_text, run_text, runs_text, word_text}
+use Rattle.lpres_reader.specs.CanonicalText.{preceded, exponent_text, run_text, runs_text, word_text}
 use Rattle.lpres_reader.specs.Tokens.{Token, name, number, symbol, StopsBefore, ReadsTokens, name_first, number_first, symbol_first}
 use Rattle.lpres_reader.proofs.canonical_texts.DecimalNumbers.{IsNumberText-decimal}
 use Rattle.lpres_reader.proofs.canonical_texts.RunWords.{sizes, sizes-runs_of, AreRuns, AreRuns-runs_of}

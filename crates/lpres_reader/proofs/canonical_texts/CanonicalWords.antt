@@ -4,10 +4,10 @@ use Rattle.std.specs.Prelude.{ℤ, pos, negsuc, neg_ℤ, unsigned_abs, ◌==◌,
 use Rattle.std.specs.Str.Parse.{digits_value}
 use Rattle.std.proofs.lemmas.Bool.{eqb-true}
 use Rattle.pq_base.specs.SignedWord.{copies, IsLetter, HasLetters}
+use Rattle.pq_base.specs.Name.{name_text}
 use Rattle.lpres_reader.specs.declared.canonical.Run.{Run}
 use Rattle.lpres_reader.specs.declared.token.Symbol.TheVariants.{Star, Caret, Minus}
 use Rattle.lpres_reader.specs.Runs.{runs_of}
-use Rattle.lpres_reader.specs.CanonicalText.{name_text}
 use Rattle.lpres_reader.specs.Tokens.{Token, name, number, symbol}
 use Rattle.lpres_reader.specs.Words as words
 use Rattle.lpres_reader.specs.Words.{ReadsWord, ReadsFactor, ReadsExponent}

@@ -1,12 +1,10 @@
 -- The canonical text is made of the texts of its lines, one after the other.
-use Rattle.std.proofs.Common.{◌≡◌, ℕ, List, [], ◌∷◌, ◌++◌, codes, refl, ap, sym, ◌∙◌, append_assoc, append-nil}
+use Rattle.std.proofs.Common.{◌≡◌, ℕ, List, [], ◌∷◌, ◌++◌, codes, ap, sym, ◌∙◌, append_assoc, append-nil}
 use Rattle.std.specs.Prelude.{ℤ}
 use Rattle.pq_base.specs.LPresentation.{LPresentation}
-use Rattle.lpres_reader.specs.CanonicalText.{preceded, generators_line, relator_lines, endo_lines, text_of_lines, canonical_text}
-
-pub text_of_lines-append : (ks ls : List (List ℕ)) → text_of_lines (ks ++ ls) ≡ text_of_lines ks ++ text_of_lines ls
-text_of_lines-append [] ls = refl
-text_of_lines-append (k ∷ ks) ls = simp (text_of_lines-append ks ls, append_assoc)
+use Rattle.pq_base.specs.Lines.{text_of_lines}
+use Rattle.pq_base.proofs.LineLaws.{text_of_lines-append}
+use Rattle.lpres_reader.specs.CanonicalText.{preceded, generators_line, relator_lines, endo_lines, canonical_text}
 
 four_parts : (g : List ℕ) (a b c : List (List ℕ)) → text_of_lines (g ∷ (a ++ (b ++ c))) ≡ (g ++ 10 ∷ []) ++ (text_of_lines a ++ (text_of_lines b ++ text_of_lines c))
 four_parts g a b c = simp (text_of_lines-append, append_assoc)

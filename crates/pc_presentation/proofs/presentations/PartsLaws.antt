@@ -1,13 +1,11 @@
 -- The conditions of an answer as they are tested, and as they are stated of the answer that the parts make.
-use Rattle.std.proofs.Common.{◌≡◌, ◌≢◌, ℕ, zero, suc, ◌+◌, ◌-◌, ◌<◌, ◌≤◌, true, false, List, [], ◌∷◌, ◌&&◌, get_or, length, map, drop, nat_eq, refl, ap, sym, ◌∙◌, arith}
+use Rattle.std.proofs.Common.{◌≡◌, ℕ, zero, suc, ◌+◌, ◌-◌, ◌<◌, ◌≤◌, true, List, [], ◌∷◌, ◌&&◌, get_or, length, map, refl, ap, sym, ◌∙◌, arith}
 use Rattle.std.specs.Prelude.{nat_le}
 use Rattle.std.specs.declared.vec.Vec.{Vec}
 use Rattle.std.specs.Global.{Global}
-use Rattle.std.proofs.lemmas.Bool.{and_parts, and_from, leb-true, le-leb, both_ways}
-use Rattle.std.proofs.lemmas.List.{get_or-map, length-map, length-drop, get_or-drop, get_or_read}
-use Rattle.std.specs.Cmp.Lexicographic.{pointwise, bytes_decides}
+use Rattle.std.proofs.lemmas.Bool.{and_parts, and_from, leb-true, le-leb}
+use Rattle.std.proofs.lemmas.List.{get_or-map, length-map}
 use Rattle.pq_base.specs.Limits.{max_class}
-use Rattle.pq_base.specs.LPresentation.{AreDistinct}
 use Rattle.pq_base.specs.Presentation.{letter, word_from}
 use Rattle.pq_base.specs.Answer.{AreWeights, AreNormal, last_or_zero}
 use Rattle.pc_presentation.specs.declared.syllable.Syllable.{Syllable}
@@ -89,26 +87,3 @@ IsGenerator-word k c e h = generator_from_letters k c e (letters_of-syllables_of
 
 pub word_from-IsGenerator : (k c : ℕ) (e : List ℕ) → IsGenerator (suc k) (syllables_of c e) → word_from c e ≡ letter k
 word_from-IsGenerator k c e h = sym (letters_of-syllables_of c e) ∙ ap letters_of h
-
--- a name that stands again
-pub repeated : (names : List (List ℕ)) (i k : ℕ) (x : List ℕ) → x ≡ get_or names i x → k < length (drop (i + 1) names)
-    → ((d : List ℕ) → pointwise nat_eq (get_or (drop (i + 1) names) k d) x ≡ true) → ¬ AreDistinct names
-repeated names i k x here below same distinct =
-    let long : length (drop (i + 1) names) ≡ length names - (i + 1) = length-drop (i + 1) names in
-    distinct i (i + 1 + k) (omega arith) (omega arith)
-    (sym (get_or_read names i x (omega arith) here [])
-    ∙ sym ((bytes_decides (get_or (drop (i + 1) names) k []) x).0 (same []))
-    ∙ get_or-drop (i + 1) names k [])
-
--- a name that doesn't stand again
-pub unrepeated : (names : List (List ℕ)) (i k : ℕ) (x : List ℕ) → x ≡ get_or names i x → i < k → k < length names
-    → ((j : ℕ) (d : List ℕ) → j < length (drop (i + 1) names) → pointwise nat_eq (get_or (drop (i + 1) names) j d) x ≡ false)
-    → get_or names i [] ≢ get_or names k []
-unrepeated names i k x here after below other same =
-    let long : length (drop (i + 1) names) ≡ length names - (i + 1) = length-drop (i + 1) names in
-    let place : i + 1 + (k - (i + 1)) ≡ k = omega arith in
-    let there : get_or (drop (i + 1) names) (k - (i + 1)) [] ≡ x =
-    get_or-drop (i + 1) names (k - (i + 1)) [] ∙ ap (λ (j : ℕ). get_or names j []) place ∙ sym same
-    ∙ sym (get_or_read names i x (omega arith) here []) in
-    both_ways (pointwise nat_eq (get_or (drop (i + 1) names) (k - (i + 1)) []) x) (other (k - (i + 1)) [] (omega arith))
-    ((bytes_decides (get_or (drop (i + 1) names) (k - (i + 1)) []) x).1 there)

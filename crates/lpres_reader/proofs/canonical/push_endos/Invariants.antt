@@ -1,5 +1,6 @@
 use Rattle.std.proofs.Common.{◌≡◌, ◌++◌, drop, map}
-use Rattle.lpres_reader.specs.CanonicalText.{text_of_lines, endo_lines}
+use Rattle.pq_base.specs.Lines.{text_of_lines}
+use Rattle.lpres_reader.specs.CanonicalText.{endo_lines}
 use Rattle.lpres_reader.proofs.canonical.push_endos.Given as goal
 
 -- what is written, and the lines of the endomorphisms that are left, are all

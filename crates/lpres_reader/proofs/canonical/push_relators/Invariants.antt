@@ -1,5 +1,6 @@
 use Rattle.std.proofs.Common.{◌≡◌, ◌++◌, drop}
-use Rattle.lpres_reader.specs.CanonicalText.{text_of_lines, relator_lines}
+use Rattle.pq_base.specs.Lines.{text_of_lines}
+use Rattle.lpres_reader.specs.CanonicalText.{relator_lines}
 use Rattle.lpres_reader.proofs.canonical.push_relators.Given as goal
 
 -- what is written, and the lines of the relators that are left, are all

@@ -3,7 +3,7 @@ use Rattle.std.proofs.lemmas.Bool.{cases_lt}
 use Rattle.std.proofs.lemmas.List.{take_rest, take_more, get_or_default}
 use Rattle.std.proofs.lemmas.List.Elements.{All-push}
 use Rattle.pq_base.specs.Name.{IsName}
-use Rattle.lpres_reader.proofs.names.RepeatedNames.{repeated, unrepeated}
+use Rattle.pq_base.proofs.DistinctNames.{repeated, unrepeated}
 use Rattle.lpres_reader.proofs.parts.are_distinct.Goals as goal
 
 pub returns-then-contains : goal.returns-then-contains

@@ -1,7 +1,7 @@
 use Rattle.std.proofs.Common.{◌≡◌, ◌≢◌, ℕ, ◌+◌, [], get_or, subst, arith, inl, inr}
 use Rattle.std.proofs.lemmas.Bool.{cases_lt, false≢true}
 use Rattle.std.proofs.lemmas.List.{take_rest}
-use Rattle.pc_presentation.proofs.presentations.PartsLaws.{repeated, unrepeated}
+use Rattle.pq_base.proofs.DistinctNames.{repeated, unrepeated}
 use Rattle.pc_presentation.proofs.parts.are_distinct.Goals as goal
 
 pub returns-then-contains : goal.returns-then-contains

@@ -52,3 +52,7 @@ max_class = 60
 -- the greatest rank of an answer
 abbrev pub max_rank : ℕ
 max_rank = 100
+
+-- the greatest number of a sample
+abbrev pub max_sample : ℕ
+max_sample = 999999

@@ -1,7 +1,7 @@
 //! How large inputs and answers may be. The definitions name the same limits in `specs/Limits`.
 
 ghost use Rattle.std.specs.Prelude.{◌≡◌};
-ghost use Rattle.pq_base.specs.Limits.{max_presentation_bytes, max_certificate_bytes, max_name_bytes, max_names, max_fixed, max_iterated, max_endos, max_exponent, max_letters, max_total_letters, max_open_brackets, max_class, max_rank};
+ghost use Rattle.pq_base.specs.Limits.{max_presentation_bytes, max_certificate_bytes, max_name_bytes, max_names, max_fixed, max_iterated, max_endos, max_exponent, max_letters, max_total_letters, max_open_brackets, max_class, max_rank, max_sample};
 
 /// The most bytes of a presentation.
 pub const PRESENTATION_BYTES: usize = 4_194_304;
@@ -42,6 +42,9 @@ pub const CLASS: u8 = 60;
 /// The greatest rank of an answer.
 pub const RANK: usize = 100;
 
+/// The greatest number of a sample.
+pub const SAMPLE: u32 = 999_999;
+
 /// Each constant is the limit that the definitions name.
 pub fn constants_are_the_limits()
     ensures presentation_bytes { PRESENTATION_BYTES ≡ max_presentation_bytes }
@@ -57,4 +60,5 @@ pub fn constants_are_the_limits()
     ensures brackets { BRACKETS ≡ max_open_brackets }
     ensures class { CLASS ≡ max_class }
     ensures rank { RANK ≡ max_rank }
+    ensures sample { SAMPLE ≡ max_sample }
 {}

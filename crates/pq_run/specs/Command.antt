@@ -1,7 +1,7 @@
 -- The words of a command: the one list of texts that spells it. Numbers are in decimal digits.
 -- From: this project's own table of command words.
 use Rattle.std.specs.Prelude.{◌≡◌, ◌≤◌, ℕ, List, [], ◌∷◌, codes, decimal}
-use Rattle.pq_base.specs.Limits.{max_class}
+use Rattle.pq_base.specs.Limits.{max_class, max_sample}
 use Rattle.pq_base.specs.Prime.{prime_value}
 use Rattle.pq_run.specs.declared.command.Command.{Command}
 use Rattle.pq_run.specs.declared.command.Command.TheVariants.{Quotient, Check, Sample}
@@ -33,7 +33,7 @@ IsClass c = (1 ≤ c) × (c ≤ max_class)
 abbrev pub IsInRange : Command → Type 0
 IsInRange (Quotient p c form) = IsClass c
 IsInRange Check = Unit {0}
-IsInRange (Sample n) = n ≤ 999999
+IsInRange (Sample n) = n ≤ max_sample
 
 -- the words are those of this command
 pub record CommandWords (words : List (List ℕ)) (command : Command) : Type 0 where

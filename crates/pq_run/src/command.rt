@@ -9,7 +9,7 @@ use crate::input::Input;
 use crate::number::canonical_number;
 use crate::words::Words;
 use pq_base::Prime;
-use pq_base::limits::CLASS;
+use pq_base::limits::{CLASS, SAMPLE};
 
 /// The form in which the answer of a presentation is given.
 #[derive(Clone, Copy, Debug, PartialEq, Eq)]
@@ -45,9 +45,6 @@ impl Command {
         }
     }
 }
-
-/// The greatest number of a sample.
-const SAMPLE: u32 = 999_999;
 
 /// The command that the words spell, or `None` exactly where they spell none. Takes no memory.
 pub fn parse_words(words: &Words) -> Option<Command>

@@ -1,7 +1,7 @@
 //! The output of `sample N`: the summary of the answer of a sample.
 
 ghost use Rattle.std.specs.Prelude.{◌≤◌, IfOk, IfErr};
-ghost use Rattle.samples.specs.Samples.{max_sample};
+ghost use Rattle.pq_base.specs.Limits.{max_sample};
 ghost use Rattle.pq_run.specs.SampleRanks.{HasSmallSampleRanks};
 ghost use Rattle.pq_run.specs.Output.{WritesSummary};
 ghost use Rattle.pq_run.specs.Cause.{IsSampleCause};

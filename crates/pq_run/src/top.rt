@@ -1,7 +1,7 @@
 //! The top call: from the words of a command and the bytes of a source to the bytes that a sink takes.
 
 ghost use Rattle.std.specs.Prelude.{◌≡◌, ◌≢◌, ◌+◌, ◌⊎◌, ◌↔◌, ◌≤◌, ℕ, List, IfSome, IsNone};
-ghost use Rattle.samples.specs.Samples.{max_sample};
+ghost use Rattle.pq_base.specs.Limits.{max_sample};
 ghost use Rattle.pq_io.specs.Faults.{Rose};
 ghost use Rattle.pq_io.specs.Writing.{Gains, GainsProperPrefix};
 ghost use Rattle.pq_run.specs.declared.input.Input.TheVariants.{Presentation, Certificate};

@@ -7,10 +7,6 @@ use Rattle.pq_base.specs.SignedWord.{inv}
 use Rattle.pq_base.specs.LPresentation.{LPresentation}
 use Rattle.pq_base.specs.Canonical.{numbers_from}
 
--- the greatest number of a sample
-abbrev pub max_sample : ℕ
-max_sample = 999999
-
 -- the number that is drawn after another
 abbrev pub next_number : ℕ → ℕ
 next_number s = (s * 1103515245 + 12345) % 2 ^ 31

@@ -1,8 +1,9 @@
 // The presentation of a sample.
 ghost use Rattle.std.specs.Prelude.{◌≡◌, ◌≤◌, [], ◌∷◌, ℕ, ℤ, List, All, IfOk, map, length};
+ghost use Rattle.pq_base.specs.Limits.{max_sample};
 ghost use Rattle.lpres_reader.specs.Parts.{IsPresentationWithinLimits};
 ghost use Rattle.lpres_reader.specs.Presentations.{made_of};
-ghost use Rattle.samples.specs.Samples.{max_sample, drawn_words, relators_from, exchange, sample_presentation};
+ghost use Rattle.samples.specs.Samples.{drawn_words, relators_from, exchange, sample_presentation};
 ghost use Rattle.samples.specs.Pieces.{AreDrawn};
 
 use crate::draws::Draws;

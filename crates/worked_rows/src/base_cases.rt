@@ -129,6 +129,7 @@ fn show_limits(out: &mut String) -> Result<()> {
         ("open brackets", limits::BRACKETS),
         ("class", limits::CLASS as usize),
         ("rank", limits::RANK),
+        ("number of a sample", limits::SAMPLE as usize),
     ] {
         writeln!(out, "    {name} {limit}")?;
     }

@@ -10,6 +10,7 @@ pub mod substitution;
 pub mod word;
 
 pub use operations::{commutator, conjugate, extended, extended_by, inverse, power, product};
+pub use pieces::push_inverse;
 pub use reduction::reduce_free;
 pub use refusal::WordRefusal;
 pub use substitution::substitute;

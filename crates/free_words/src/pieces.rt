@@ -15,7 +15,7 @@ pub(crate) fn inverted(k: i32) -> i32
 }
 
 /// Puts the inverse of a word at the end.
-pub(crate) fn push_inverse(out: &mut Vec<i32>, word: &[i32]) -> Result<(), AllocError>
+pub fn push_inverse(out: &mut Vec<i32>, word: &[i32]) -> Result<(), AllocError>
     requires { AreLetters word.now }
     ensures { OnOk result (out.new.items ≡ out.old.items ++ inv word.now) }
 {

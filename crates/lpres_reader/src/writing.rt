@@ -1,12 +1,12 @@
 //! Writing the letters of a recipe.
 
-ghost use Rattle.std.specs.Prelude.{◌≡◌, ◌++◌, pos, suc, neg_ℤ, take, drop, IfOk, OnOk};
-ghost use Rattle.pq_base.specs.SignedWord.{inv, comm, conj, IsLetter};
+ghost use Rattle.std.specs.Prelude.{◌≡◌, ◌++◌, pos, suc, take, drop, IfOk, OnOk};
+ghost use Rattle.pq_base.specs.SignedWord.{comm, conj, IsLetter};
 ghost use Rattle.free_words.specs.Letters.{AreLetters};
 ghost use Rattle.lpres_reader.specs.Recipes.{signed, power_of, last, without_last, step_on};
 
 use crate::recipe::{Recipe, Step};
-use free_words::Word;
+use free_words::{Word, push_inverse};
 use pq_base::NoMemory;
 use std::alloc::{AllocError, Global};
 
@@ -75,27 +75,6 @@ fn cut_in_two(word: &[i32], at: usize) -> (&[i32], &[i32])
     ensures second { result.1.now ≡ drop at word.now }
 {
     word.split_at(at.min(word.len()))
-}
-
-/// The inverse of a letter.
-fn inverted(k: i32) -> i32
-    requires { IsLetter 2147483647 k }
-    ensures { result ≡ neg_ℤ k }
-{
-    -k
-}
-
-/// Puts the inverse of a word at the end.
-fn push_inverse(out: &mut Vec<i32>, word: &[i32]) -> Result<(), AllocError>
-    requires { AreLetters word.now }
-    ensures { OnOk result (out.new.items ≡ out.old.items ++ inv word.now) }
-{
-    let mut rest = word;
-    while let Some((k, before)) = rest.split_last() {
-        out.push(inverted(*k))?;
-        rest = before;
-    }
-    Ok(())
 }
 
 /// Puts a word at the end, or its inverse.

@@ -6,6 +6,7 @@ use Rattle.std.specs.List.{All}
 use Rattle.pq_base.specs.Limits.{max_rank}
 use Rattle.pq_base.specs.Answer.{class_of}
 use Rattle.pq_base.specs.Canonical.{numbers_from}
+use Rattle.pq_base.proofs.NumberLists.{map_numbers-agree}
 use Rattle.fp_rows.specs.Row.{at_column}
 use Rattle.fp_rows.specs.Rows.{IsRow}
 use Rattle.fp_echelon.specs.Span.{InSpan}
@@ -68,13 +69,6 @@ filter_agree f g zero a same = refl
 filter_agree f g (suc n) a same =
     ap₂ (λ (b : Bool) (ts : List ℕ). cond b (a ∷ ts) ts) (same a (omega arith) (omega arith))
     (filter_agree f g n (suc a) (λ t l m. same t (omega arith) (omega arith)))
-
-map_agree : {X : Type 0} (f g : ℕ → X) (n a : ℕ) → ((t : ℕ) → a ≤ t → t < a + n → f t ≡ g t)
-    → map f (numbers_from a n) ≡ map g (numbers_from a n)
-map_agree f g zero a same = refl
-map_agree {X} f g (suc n) a same =
-    ap₂ (λ (x : X) (xs : List X). x ∷ xs) (same a (omega arith) (omega arith))
-    (map_agree f g n (suc a) (λ t l m. same t (omega arith) (omega arith)))
 
 -- the row of a tail by lines of pivots
 module _ (p width : ℕ) (bs : List BasisRow) where
@@ -203,7 +197,7 @@ module _ (C : CoverOf) (s : HeldStep) (told : IsTold s) (prime : s.prime ≡ C.a
       ap₂ (λ (kept : List ℕ) (rows : List (List ℕ)). let K : TailCombinations = record
       { prime = C.answer.presentation.prime; kept = kept; rows = rows } in K)
       kept-same
-      (map_agree (λ t. entries_at (kept_in C (held_lines s)) (tail_row (length C.sources) (held_lines s).tails t))
+      (map_numbers-agree (λ t. entries_at (kept_in C (held_lines s)) (tail_row (length C.sources) (held_lines s).tails t))
       (λ t. entries_at (kept_columns (length C.sources) s.rows)
       (reduce_by C.answer.presentation.prime s.rows (unit_row (length C.sources) t)))
       (length C.sources) 1 (λ t l m.

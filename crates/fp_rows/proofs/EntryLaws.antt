@@ -3,15 +3,11 @@ use Rattle.std.proofs.Common.{◌≡◌, ℕ, zero, suc, ◌+◌, ◌-◌, ◌*�
 use Rattle.std.proofs.Math.Nat.{mul-zero, add-mod-mod}
 use Rattle.pq_base.specs.Table.{AllBelow}
 use Rattle.pq_base.specs.Elementary.{zeros}
+use Rattle.pq_base.proofs.UnitLaws.{get_or-zeros}
 use Rattle.pq_base.proofs.tables.TableLaws.{get_or-below}
 use Rattle.fp_rows.specs.Rows.{add_rows, scale_row, add_scaled}
 use Rattle.fp_rows.specs.Row.{at_column, IsZeroRow}
 use Rattle.fp_rows.proofs.RowLaws.{length-scale_row}
-
-pub get_or-zeros : (n i : ℕ) → get_or (zeros n) i 0 ≡ 0
-get_or-zeros zero i = refl
-get_or-zeros (suc n) zero = refl
-get_or-zeros (suc n) (suc i) = get_or-zeros n i
 
 pub get_or-add_rows : (p : ℕ) (xs ys : List ℕ) (i : ℕ) → 0 < p → length xs ≡ length ys
     → get_or (add_rows p xs ys) i 0 ≡ (get_or xs i 0 + get_or ys i 0) % p

@@ -1,5 +1,5 @@
 -- Lists of successive numbers: their length, their entries, and what holds of each.
-use Rattle.std.proofs.Common.{◌≡◌, ◌<◌, ◌≤◌, ◌+◌, ◌-◌, ℕ, zero, suc, List, [], ◌∷◌, ◌++◌, get_or, length, map, refl, ap, ◌∙◌, arith, add-one}
+use Rattle.std.proofs.Common.{◌≡◌, ◌<◌, ◌≤◌, ◌+◌, ◌-◌, ℕ, zero, suc, List, [], ◌∷◌, ◌++◌, get_or, length, map, refl, ap, ap₂, ◌∙◌, arith, add-one}
 use Rattle.std.specs.Prelude.{All}
 use Rattle.std.specs.List.{Contains}
 use Rattle.std.proofs.lemmas.List.{get_or-map, map_push}
@@ -37,6 +37,14 @@ numbers-more n =
 
 pub map_numbers-more : {X : Type 0} → (f : ℕ → X) (n : ℕ) → map f (numbers_from 1 (n + 1)) ≡ map f (numbers_from 1 n) ++ f (n + 1) ∷ []
 map_numbers-more f n = ap (map f) (numbers-more n) ∙ map_push f (numbers_from 1 n) (n + 1)
+
+-- functions that agree on a range
+pub map_numbers-agree : {X : Type 0} → (f g : ℕ → X) (n a : ℕ) → ((t : ℕ) → a ≤ t → t < a + n → f t ≡ g t)
+    → map f (numbers_from a n) ≡ map g (numbers_from a n)
+map_numbers-agree f g zero a same = refl
+map_numbers-agree {X} f g (suc n) a same =
+    ap₂ (λ (x : X) (xs : List X). x ∷ xs) (same a (omega arith) (omega arith))
+    (map_numbers-agree f g n (suc a) (λ t l m. same t (omega arith) (omega arith)))
 
 pub All-numbers : (P : ℕ → Type 0) (a n : ℕ) → ((k : ℕ) → a ≤ k → k < a + n → P k) → All P (numbers_from a n)
 All-numbers P a zero h = All-nil P

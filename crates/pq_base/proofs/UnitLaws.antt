@@ -1,9 +1,10 @@
--- Unit vectors: their lengths, their entries, and their words.
-use Rattle.std.proofs.Common.{◌≡◌, ℕ, zero, suc, ◌+◌, ◌<◌, ◌≤◌, ℤ, List, ◌++◌, length, refl, ap, ◌∙◌, arith}
+-- Lists of zeros and unit vectors: their lengths, their entries, and their words.
+use Rattle.std.proofs.Common.{◌≡◌, ℕ, zero, suc, ◌+◌, ◌<◌, ◌≤◌, ℤ, List, ◌++◌, get_or, length, refl, ap, ◌∙◌, arith}
 use Rattle.std.proofs.lemmas.List.{length-replicate}
 use Rattle.pq_base.specs.Table.{AllBelow}
 use Rattle.pq_base.specs.Presentation.{letter, word_from}
 use Rattle.pq_base.specs.Canonical.{unit}
+use Rattle.pq_base.specs.Elementary.{zeros}
 use Rattle.pq_base.proofs.words.WordLaws.{word_from-zeros}
 use Rattle.pq_base.proofs.ElementarySides.{zeros-below}
 
@@ -11,6 +12,18 @@ pub length-unit : (n k : ℕ) → length (unit n k) ≡ n
 length-unit zero k = refl
 length-unit (suc n) zero = omega (arith, length-replicate {A = ℕ} n 0)
 length-unit (suc n) (suc k) = omega (arith, length-unit n k)
+
+-- each entry of a list of zeros
+pub get_or-zeros : (n i : ℕ) → get_or (zeros n) i 0 ≡ 0
+get_or-zeros zero i = refl
+get_or-zeros (suc n) zero = refl
+get_or-zeros (suc n) (suc i) = get_or-zeros n i
+
+-- the entry of a unit that is not 0
+pub get_or-unit : (n k : ℕ) → k < n → get_or (unit n k) k 0 ≡ 1
+get_or-unit zero k l = absurd (omega arith)
+get_or-unit (suc n) zero l = refl
+get_or-unit (suc n) (suc k) l = get_or-unit n k (omega arith)
 
 pub unit-below : (p n k : ℕ) → 2 ≤ p → AllBelow p (unit n k)
 unit-below p zero k h = tt

@@ -1,11 +1,12 @@
 -- The lines of a step make of its cover what a reduced basis makes, which is in the span of the rows that they are sums of: a tail with
 -- a line becomes its representative modulo the basis, and the tails without one are those without a pivot.
-use Rattle.std.proofs.Common.{◌≡◌, ◌+◌, ◌<◌, ◌≤◌, ℕ, zero, suc, Bool, true, false, not, cond, ◌≢◌, ◌||◌, List, [], ◌∷◌, length, map, filter}
+use Rattle.std.proofs.Common.{◌≡◌, ◌<◌, ◌≤◌, ℕ, zero, suc, Bool, true, false, not, cond, ◌≢◌, ◌||◌, List, [], ◌∷◌, length, filter}
 use Rattle.std.proofs.Common.{refl, ap, ap₂, sym, ◌∙◌, subst, arith, eq-eqb, ne_eqb, inl, inr}
 use Rattle.std.proofs.lemmas.Bool.{cases_eq, cases_Bool}
 use Rattle.std.specs.List.{All}
 use Rattle.std.proofs.lemmas.List.Elements.{All-weaker}
 use Rattle.pq_base.specs.Canonical.{numbers_from}
+use Rattle.pq_base.proofs.NumberLists.{map_numbers-agree}
 use Rattle.fp_rows.specs.Rows.{IsRow}
 use Rattle.fp_rows.specs.Differences.{difference}
 use Rattle.fp_echelon.specs.Span.{combine, InSpan, EachInSpan}
@@ -32,13 +33,6 @@ use Rattle.derivation_log.specs.CertificateParts.{IsSumOfRows}
 use Rattle.valid_certificates.specs.LineBases.{AreLinesOver, HasBasis, LinesHaveBases}
 use Rattle.valid_certificates.proofs.LineForms.{IsLineAmong, first_line}
 use Rattle.valid_certificates.proofs.LineRows.{line_row, line_rows, pivots_of_lines, row_of_pairs-is, column-of_pairs, all-reduced}
-
-map_agree : {X : Type 0} (f g : ℕ → X) (n a : ℕ) → ((t : ℕ) → a ≤ t → t < a + n → f t ≡ g t)
-    → map f (numbers_from a n) ≡ map g (numbers_from a n)
-map_agree f g zero a same = refl
-map_agree {X} f g (suc n) a same =
-    ap₂ (λ (x : X) (xs : List X). x ∷ xs) (same a (omega arith) (omega arith))
-    (map_agree f g n (suc a) (λ t l m. same t (omega arith) (omega arith)))
 
 -- a pivot is the tail of a line
 pivot-has_line : (p width : ℕ) (ls : List TailLine) (t : ℕ) → IsPivot t (line_rows p width ls) → has_line ls t ≡ true
@@ -182,7 +176,7 @@ module _ (C : CoverOf) (rows : List (List ℕ)) (s : StepLines) (are : AreLinesO
   combinations-same =
       ap₂ (λ (kept : List ℕ) (xs : List (List ℕ)). let K : TailCombinations = record { prime = p; kept = kept; rows = xs } in K)
       kept-same
-      (map_agree (λ t. entries_at (kept_in C s) (tail_row width s.tails t))
+      (map_numbers-agree (λ t. entries_at (kept_in C s) (tail_row width s.tails t))
       (λ t. entries_at (kept_columns width basis) (reduce_by p basis (unit_row width t))) width 1 (λ t l m.
       ap₂ entries_at kept-same (row-reduced p width (length s.sources) are.prime s.tails are.form within t)))
 

@@ -8,7 +8,7 @@ use Rattle.pq_base.specs.Answer.{Answer, IsAnswer, last_or_zero, class_of, weigh
 use Rattle.pq_base.specs.Canonical.{unit, ObeysWeights, IsCanonical}
 use Rattle.pq_base.specs.Elementary.{zeros}
 use Rattle.pq_base.proofs.words.WordLaws.{word_from-zeros}
-use Rattle.pq_base.proofs.UnitLaws.{length-unit, unit-below, word_from-unit}
+use Rattle.pq_base.proofs.UnitLaws.{length-unit, get_or-zeros, get_or-unit, unit-below, word_from-unit}
 use Rattle.pq_base.proofs.ElementarySides.{zeros-below}
 use Rattle.pq_base.proofs.words.LetterLaws.{HasLetters-letter}
 use Rattle.pq_base.proofs.words.JoinedLaws.{joined-from_equal, joined-trans}
@@ -41,20 +41,9 @@ some-weight : (ws : List ℕ) → 0 < last_or_zero ws → 0 < length ws
 some-weight [] h = absurd (omega arith)
 some-weight (w ∷ ws) h = omega arith
 
--- a unit has an entry that is not 0
-unit-entry : (n k : ℕ) → k < n → get_or (unit n k) k 0 ≡ 1
-unit-entry zero k l = absurd (omega arith)
-unit-entry (suc n) zero l = refl
-unit-entry (suc n) (suc k) l = unit-entry n k (omega arith)
-
 zeros-length : (n : ℕ) → length (zeros n) ≡ n
 zeros-length zero = refl
 zeros-length (suc n) = ap suc (zeros-length n)
-
-zeros-entry : (n k : ℕ) → get_or (zeros n) k 0 ≡ 0
-zeros-entry zero k = refl
-zeros-entry (suc n) zero = refl
-zeros-entry (suc n) (suc k) = zeros-entry n k
 
 no_one : (a : ℕ) → a ≡ 1 → a ≡ 0 → ⊥
 no_one a e f = absurd (omega arith)
@@ -82,7 +71,7 @@ module _ (A : Answer) (is : IsAnswer A) where
       (record { count = zeros-length n; below = zeros-below q n (omega arith) })
       (joined-trans (joined-from_equal A.presentation (word_from-unit 0 n k l ∙ ap letter place))
       (joined-trans e (joined-from_equal A.presentation (sym (word_from-zeros 0 n))))) in
-      no_one (get_or (unit n k) k 0) (unit-entry n k l) (ap (λ (x : List ℕ). get_or x k 0) same ∙ zeros-entry n k)
+      no_one (get_or (unit n k) k 0) (get_or-unit n k l) (ap (λ (x : List ℕ). get_or x k 0) same ∙ get_or-zeros n k)
 
 pub canonical_answers_have_no_smaller_class : CanonicalAnswersHaveNoSmallerClass
 canonical_answers_have_no_smaller_class A is canonical consistent k l class =

@@ -1,22 +1,18 @@
 -- The next answer obeys the weights where the answer does and the tails of heavy commutators are in the span: new generators
 -- have the greatest weight, and a heavy commutator has row zero.
-use Rattle.std.proofs.Common.{◌≡◌, ◌≢◌, ℕ, zero, suc, ◌+◌, ◌-◌, ◌<◌, ◌≤◌, List, [], ◌++◌, get_or, length, replicate, inl, inr, ap, sym, ◌∙◌, refl, arith}
+use Rattle.std.proofs.Common.{◌≡◌, ◌≢◌, ℕ, suc, ◌+◌, ◌-◌, ◌<◌, ◌≤◌, List, ◌++◌, get_or, length, replicate, inl, inr, ap, sym, ◌∙◌, arith}
 use Rattle.std.proofs.lemmas.Bool.{cases_lt}
 use Rattle.std.proofs.lemmas.List.{get_or_append_left, get_or-append-add, get_or_past}
 use Rattle.pq_base.specs.Presentation.{commutator_side, power_side}
 use Rattle.pq_base.specs.Answer.{Answer, Definition as Source, class_of, weight_at}
 use Rattle.pq_base.specs.Canonical.{ObeysWeights}
+use Rattle.pq_base.proofs.UnitLaws.{get_or-zeros}
 use Rattle.pc_presentation.specs.Rowed.{RowedPresentation, power_row, commutator_row, flat}
 use Rattle.pc_presentation.proofs.rows.FlatLaws.{power_side-flat, power_side-tail, commutator_side-flat, commutator_side-tail}
 use Rattle.p_cover.specs.RowedAnswer.{RowedAnswer, IsRowedAnswer, rowed}
 use Rattle.cover_quotient.specs.NextAnswer.{next_answer}
 use Rattle.pq_base.proofs.LastWeights.{weights-within_class}
 use Rattle.cover_quotient.proofs.next_answers.NextEntries.{old-weight, new-weight}
-
-zeros-entry : (r m : ℕ) → get_or (replicate {A = ℕ} r 0) m 0 ≡ 0
-zeros-entry zero m = get_or_past [] m 0 (omega arith)
-zeros-entry (suc r) zero = refl
-zeros-entry (suc r) (suc m) = zeros-entry r m
 
 module _ (Y : RowedAnswer) (is : IsRowedAnswer Y) (sources : List Source) (obeys : ObeysWeights Y.answer)
     (heavy : (j i : ℕ) → j < Y.answer.presentation.rank → i < j → suc (class_of Y.answer) < weight_at Y.answer j + weight_at Y.answer i
@@ -74,7 +70,7 @@ module _ (Y : RowedAnswer) (is : IsRowedAnswer Y) (sources : List Source) (obeys
               | inl above ↦
                   absurd
                   (other (entry ∙ ap (λ (y : List ℕ). get_or y (m - length (commutator_side Y.answer.presentation j i)) 0) (heavy j i l b above)
-                  ∙ zeros-entry Y.width (m - length (commutator_side Y.answer.presentation j i))))
+                  ∙ get_or-zeros Y.width (m - length (commutator_side Y.answer.presentation j i))))
               | inr light ↦ omega arith
             ]
       ]
@@ -106,7 +102,7 @@ module _ (Y : RowedAnswer) (is : IsRowedAnswer Y) (sources : List Source) (obeys
       let r : ℕ = (Y.answer.presentation.rank + Y.width) - suc j in
       let place : j ≡ Y.answer.presentation.rank + (j - Y.answer.presentation.rank) = omega arith in
       ap (λ (l : ℕ). get_or (commutator_side (flat (rowed Y)) l i) m 0) place
-      ∙ ap (λ (e : List ℕ). get_or e m 0) (commutator_side-tail Z is.presentation t r i (omega arith) (omega arith)) ∙ zeros-entry r m
+      ∙ ap (λ (e : List ℕ). get_or e m 0) (commutator_side-tail Z is.presentation t r i (omega arith) (omega arith)) ∙ get_or-zeros r m
 
   new-power : (l m : ℕ) → n ≤ l → l < n + Y.width → get_or (power_side N.presentation l) m 0 ≡ 0
   new-power l m a b =
@@ -114,7 +110,7 @@ module _ (Y : RowedAnswer) (is : IsRowedAnswer Y) (sources : List Source) (obeys
       let r : ℕ = (Y.answer.presentation.rank + Y.width) - suc l in
       let place : l ≡ Y.answer.presentation.rank + (l - Y.answer.presentation.rank) = omega arith in
       ap (λ (j : ℕ). get_or (power_side (flat (rowed Y)) j) m 0) place
-      ∙ ap (λ (e : List ℕ). get_or e m 0) (power_side-tail Z is.presentation t r (omega arith)) ∙ zeros-entry r m
+      ∙ ap (λ (e : List ℕ). get_or e m 0) (power_side-tail Z is.presentation t r (omega arith)) ∙ get_or-zeros r m
 
   pub next-obeys : ObeysWeights (next_answer Y sources)
   next-obeys = record {

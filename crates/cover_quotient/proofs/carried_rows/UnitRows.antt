@@ -7,7 +7,7 @@ use Rattle.pc_presentation.proofs.rows.TailRowLaws.{length-unit_row, AllBelow-un
 use Rattle.fp_rows.specs.Rows.{IsRow, add_rows, scale_row}
 use Rattle.fp_rows.specs.Row.{at_column}
 use Rattle.fp_rows.proofs.RowLaws.{scale_row-zeros, scale_row-one, scale_row-zero, add_rows-zeros, zeros-add_rows}
-use Rattle.fp_rows.proofs.EntryLaws.{get_or-zeros}
+use Rattle.pq_base.proofs.UnitLaws.{get_or-zeros}
 use Rattle.fp_echelon.specs.Span.{combine, AreRows}
 use Rattle.fp_echelon.proofs.SpanLaws.{IsRow-combine, combine-zeros}
 use Rattle.pc_presentation.specs.Pcp.{unit_row}

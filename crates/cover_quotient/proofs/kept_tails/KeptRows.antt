@@ -8,7 +8,8 @@ use Rattle.pq_base.specs.Table.{AllBelow}
 use Rattle.pq_base.specs.Canonical.{numbers_from}
 use Rattle.fp_rows.specs.Rows.{IsRow, add_rows, scale_row}
 use Rattle.fp_rows.specs.Row.{at_column}
-use Rattle.fp_rows.proofs.EntryLaws.{get_or-zeros, get_or-add_rows, get_or-scale_row, at_column-zeros, at_column-below, IsZeroRow-is_zeros, IsZeroRow-from_entries}
+use Rattle.pq_base.proofs.UnitLaws.{get_or-zeros}
+use Rattle.fp_rows.proofs.EntryLaws.{get_or-add_rows, get_or-scale_row, at_column-zeros, at_column-below, IsZeroRow-is_zeros, IsZeroRow-from_entries}
 use Rattle.fp_rows.proofs.RowLaws.{IsRow-zeros}
 use Rattle.fp_echelon.specs.Span.{combine, AreRows, InSpan}
 use Rattle.fp_echelon.specs.Reduced.{BasisRow, rows_of, IsReduced}

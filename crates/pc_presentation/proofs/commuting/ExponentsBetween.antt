@@ -1,18 +1,12 @@
 -- Exponents copied at their places, one by one: what is copied, and that the parts of both lists between these places are equal.
 use Rattle.std.proofs.Common.{◌≡◌, ◌≢◌, ℕ, ◌+◌, ◌-◌, ◌<◌, ◌≤◌, List, get_or, length, replicate, take, drop, sym, ◌∙◌, subst, arith, inl, inr}
-use Rattle.std.proofs.Math.ListN.{set, get_or-eq_default}
-use Rattle.std.proofs.lemmas.List.{get_or-drop, get_or-take, get_or-replicate, get_or-set_same, get_or-set_other, length-set, length-drop, length-replicate, length-take-le}
+use Rattle.std.proofs.Math.ListN.{set}
+use Rattle.std.proofs.lemmas.List.{get_or-drop, get_or-take, get_or-set_same, get_or-set_other, length-set, length-drop, length-replicate, length-take-le}
 use Rattle.std.proofs.lemmas.Grind.{same_number_lists}
-use Rattle.std.proofs.lemmas.Bool.{cases_lt}
 use Rattle.std.proofs.lemmas.Bool.Decides.{eqb_tells}
 use Rattle.pq_base.specs.Limits.{max_rank}
+use Rattle.pq_base.proofs.UnitLaws.{get_or-zeros}
 use Rattle.pc_presentation.specs.Commuting.{AreBetween}
-
-get_or-zeros : (n k : ℕ) → get_or (replicate {A = ℕ} n 0) k 0 ≡ 0
-get_or-zeros n k = elim (cases_lt k n) [
-  | inl l ↦ get_or-replicate n k 0 0 l
-  | inr l ↦ let long = length-replicate {A = ℕ} n 0 in get_or-eq_default (replicate {A = ℕ} n 0) 0 (omega arith)
-]
 
 pub between-none : (a : ℕ) (e : List ℕ) → AreBetween a a e (replicate {A = ℕ} max_rank 0)
 between-none a e = record {

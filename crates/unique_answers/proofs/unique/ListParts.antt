@@ -3,7 +3,7 @@ use Rattle.std.proofs.Common.{◌≡◌, ◌≢◌, ℕ, zero, suc, ◌+◌, ◌
 use Rattle.std.proofs.lemmas.List.{length-take-le}
 use Rattle.pq_base.specs.SignedWord.{copies}
 use Rattle.pq_base.specs.Presentation.{letter, word_from}
-use Rattle.pq_base.specs.Canonical.{unit}
+use Rattle.pq_base.proofs.UnitLaws.{get_or-zeros}
 use Rattle.pq_base.proofs.words.WordLaws.{word_from-append}
 use Rattle.cover_quotient.proofs.canonical_answers.ClassesByWeight.{word_from-zero}
 
@@ -51,14 +51,9 @@ word_from-part s (suc n) [] h = refl
 word_from-part s (suc n) (x ∷ e) h =
     ap (λ (w : List ℤ). copies (letter s) x ++ w) (word_from-part (suc s) n e (λ i l. h (suc i) (omega arith)))
 
-zeros-entry : (n i : ℕ) → get_or (replicate {A = ℕ} n 0) i 0 ≡ 0
-zeros-entry zero i = refl
-zeros-entry (suc n) zero = refl
-zeros-entry (suc n) (suc i) = zeros-entry n i
-
 pub get_or-part_zeros : (n m : ℕ) (e : List ℕ) → n ≤ length e → ((i : ℕ) → n ≤ i → get_or e i 0 ≡ 0)
     → (i : ℕ) → get_or (take n e ++ replicate m 0) i 0 ≡ get_or e i 0
-get_or-part_zeros zero m e l h i = zeros-entry m i ∙ sym (h i (omega arith))
+get_or-part_zeros zero m e l h i = get_or-zeros m i ∙ sym (h i (omega arith))
 get_or-part_zeros (suc n) m [] l h i = absurd (omega arith)
 get_or-part_zeros (suc n) m (x ∷ e) l h zero = refl
 get_or-part_zeros (suc n) m (x ∷ e) l h (suc i) = get_or-part_zeros n m e (omega arith) (λ j b. h (suc j) (omega arith)) i
@@ -72,9 +67,3 @@ zeros-from_word s (suc x ∷ e) h i = absurd (some_letter h)
   where
     some_letter : {k : ℤ} {w : List ℤ} → k ∷ w ≡ [] → ⊥
     some_letter e = let long = ap length e in absurd (omega arith)
-
--- the entry of a unit that is not 0
-pub unit-entry : (n k : ℕ) → k < n → get_or (unit n k) k 0 ≡ 1
-unit-entry zero k l = absurd (omega arith)
-unit-entry (suc n) zero l = refl
-unit-entry (suc n) (suc k) l = unit-entry n k (omega arith)

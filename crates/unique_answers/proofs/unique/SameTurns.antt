@@ -12,10 +12,9 @@ use Rattle.pq_base.specs.Joined.{Joined}
 use Rattle.pq_base.specs.Answer.{Answer, Definition, definition_at, image_words}
 use Rattle.pq_base.specs.Canonical.{rank_up_to, new_count, new_part, unit, up_to_class, DefinesNext, DefinesNone, AreMet}
 use Rattle.pq_base.specs.EntryWords.{IsSourceOf, entry_word}
-use Rattle.pq_base.proofs.UnitLaws.{word_from-unit}
+use Rattle.pq_base.proofs.UnitLaws.{get_or-unit, word_from-unit}
 use Rattle.pq_base.proofs.words.JoinedLaws.{joined-from_equal, joined-trans}
 use Rattle.unique_answers.specs.UniqueLaws.{DiesIn}
-use Rattle.unique_answers.proofs.unique.ListParts.{unit-entry}
 use Rattle.unique_answers.proofs.unique.Layers.{IsLayer, AreLettersFrom, AreMetWords, forced}
 
 AreWords-with_last : (n : ℕ) (ws : List (List ℤ)) (w : List ℤ) → AreWords n ws → HasLetters n w → AreWords n (ws ++ w ∷ [])
@@ -61,7 +60,7 @@ met-more D A k met ws d layer source words next =
 one_side : (A B : Answer) (k met : ℕ) (d : Definition) → DefinesNext A k met d → DefinesNone B k met d
     → ((g : ℕ) → get_or (new_part A k d) g 0 ≡ get_or (new_part B k d) g 0) → ⊥
 one_side A B k met d next none same =
-    let one : get_or (unit (new_count A k) met) met 0 ≡ 1 = unit-entry (new_count A k) met next.one_left in
+    let one : get_or (unit (new_count A k) met) met 0 ≡ 1 = get_or-unit (new_count A k) met next.one_left in
     let there : get_or (new_part A k d) met 0 ≡ get_or (unit (new_count A k) met) met 0 =
     ap (λ (x : List ℕ). get_or x met 0) next.new_generator in
     let nothing : get_or (new_part B k d) met 0 ≡ 0 = none.met_alone met (omega arith) in

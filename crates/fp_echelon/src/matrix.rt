@@ -42,26 +42,26 @@ impl Matrix {
         })
     }
 
-    /// Replaces the row at a tail.
-    pub fn set_row(&mut self, tail: u16, row: &Row)
-        requires first { 1 ≤ tail }
-        requires last { tail ≤ self.old.width }
+    /// Replaces the row of a number, counted from 1.
+    pub fn set_row(&mut self, number: u16, row: &Row)
+        requires first { 1 ≤ number }
+        requires last { number ≤ self.old.width }
         requires prime { row.now.prime ≡ self.old.prime }
         requires width { length row.now.entries ≡ self.old.width }
-        ensures { self.new ≡ record self.old { rows = slice_set self.old.rows (tail - 1) row.now.entries } }
+        ensures { self.new ≡ record self.old { rows = slice_set self.old.rows (number - 1) row.now.entries } }
     {
         let _width = row.width();
-        self.rows[tail as usize - 1].copy_from(row);
+        self.rows[number as usize - 1].copy_from(row);
     }
 
-    /// The row at a tail.
-    pub fn row(&self, tail: u16) -> &Row
-        requires first { 1 ≤ tail }
-        requires last { tail ≤ self.now.width }
-        ensures row { result.now ≡ record { prime = self.now.prime; entries = get_or self.now.rows (tail - 1) [] } }
+    /// The row of a number, counted from 1.
+    pub fn row(&self, number: u16) -> &Row
+        requires first { 1 ≤ number }
+        requires last { number ≤ self.now.width }
+        ensures row { result.now ≡ record { prime = self.now.prime; entries = get_or self.now.rows (number - 1) [] } }
         ensures matrix { IsMatrix self.now }
     {
-        &self.rows[tail as usize - 1]
+        &self.rows[number as usize - 1]
     }
 
     /// Makes `out` the row times the matrix.
@@ -82,7 +82,7 @@ fn zero_rows(alloc: Global, prime: Prime, width: u16) -> Result<Vec<Row>, NoMemo
     ensures { IfOk result (λ rows. rows.items ≡ replicate width (record { prime = prime_value prime; entries = zeros width })) }
 {
     let mut rows = Vec::with_capacity(alloc, width as usize)?;
-    for _tail in 0..width {
+    for _number in 0..width {
         rows.push(Row::zero(alloc, prime, width)?)?;
     }
     Ok(rows)

@@ -20,6 +20,7 @@ use Rattle.pq_base.proofs.words.WordGroup.{joined-sub_same}
 use Rattle.fp_rows.specs.Rows.{IsRow}
 use Rattle.fp_echelon.specs.Span.{AreRows}
 use Rattle.fp_echelon.specs.Matrix.{times_matrix}
+use Rattle.fp_echelon.proofs.SpanLaws.{AreRows-entry}
 use Rattle.pc_presentation.specs.Rowed.{RowedPresentation, IsRowed, flat}
 use Rattle.pc_presentation.specs.RowedLaws.{IsUpToRow}
 use Rattle.pc_presentation.proofs.rows.RowsCentral.{row_word-central, row_word-power}
@@ -35,7 +36,6 @@ use Rattle.cover_quotient.proofs.fitting.CoverValues.{entry_elements}
 use Rattle.cover_quotient.proofs.fitting.TailValues.{spelled_in, length-spelled_in, with_tails, get_or-tail}
 use Rattle.endo_lift.specs.Lifts.{AreJoinedIn, AreImageRows, CarriesRows}
 use Rattle.endo_lift.proofs.RangedWords.{ranged_group}
-use Rattle.endo_lift.proofs.RowLists.{AreRows-entry}
 use Rattle.endo_lift.proofs.RowedImages.{AreWords-rowed_images}
 use Rattle.endo_lift.proofs.CoverWords.{IsCentralOfOrder, carried_words, carried_words-tail, row-carried}
 
@@ -98,7 +98,7 @@ module _ (C : CoverOf) (is : IsCover C) (endo : List (List ℤ)) (count : length
   inside = AreWords-map_sub (n + q) images (AreWords-rowed_images (rowed_cover C) (cover-rowed C is)) endo
 
   image_row : (t : ℕ) → t < q → IsRow p q (get_or rows t [])
-  image_row t l = AreRows-entry p q rows t are (omega arith)
+  image_row t l = AreRows-entry p q rows t [] (omega arith) are
 
   -- the image of each entry word has a row
   by_place : (d : Source) → IsSourceOf A d → (o : Option ℕ) → place_in C.sources d ≡ o

@@ -25,8 +25,3 @@ pub AreRows-from_entries : (p width : ℕ) (rows : List (List ℕ))
 AreRows-from_entries p width [] h = tt
 AreRows-from_entries p width (x ∷ rows) h =
     (h 0 (omega arith), AreRows-from_entries p width rows (λ t l. h (suc t) (omega arith)))
-
-pub AreRows-entry : (p width : ℕ) (rows : List (List ℕ)) (t : ℕ) → AreRows p width rows → t < length rows → IsRow p width (get_or rows t [])
-AreRows-entry p width [] t are l = absurd (omega arith)
-AreRows-entry p width (x ∷ rows) zero are l = are.0
-AreRows-entry p width (x ∷ rows) (suc t) are l = AreRows-entry p width rows t are.1 (omega arith)

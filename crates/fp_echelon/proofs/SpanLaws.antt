@@ -1,6 +1,6 @@
 -- Combinations are linear in their coefficients, so a span holds the zero row, sums, multiples, each of its rows, and
 -- whatever is spanned by rows that it holds.
-use Rattle.std.proofs.Common.{◌≡◌, ℕ, zero, suc, ◌+◌, ◌*◌, ◌%◌, ◌-◌, ◌<◌, ◌≤◌, List, [], ◌∷◌, ◌++◌, length, refl, ap, ap₂, sym, ◌∙◌, subst, arith, mod-eq_of_lt, length-append}
+use Rattle.std.proofs.Common.{◌≡◌, ℕ, zero, suc, ◌+◌, ◌*◌, ◌%◌, ◌-◌, ◌<◌, ◌≤◌, List, [], ◌∷◌, ◌++◌, get_or, length, refl, ap, ap₂, sym, ◌∙◌, subst, arith, mod-eq_of_lt, length-append}
 use Rattle.pq_base.specs.Table.{AllBelow}
 use Rattle.pq_base.specs.Elementary.{zeros}
 use Rattle.fp_rows.specs.Rows.{IsRow, add_rows, scale_row, add_scaled}
@@ -13,6 +13,13 @@ IsRow-combine p width (c ∷ cs) [] h are = IsRow-zeros p width h
 IsRow-combine p width (c ∷ cs) (r ∷ rows) h are =
     IsRow-add_rows p width (scale_row p c r) (combine p width cs rows) h
     (IsRow-scale_row p width c r h are.0) (IsRow-combine p width cs rows h are.1)
+
+-- an entry of rows is a row
+pub AreRows-entry : (p width : ℕ) (rows : List (List ℕ)) (t : ℕ) (d : List ℕ) → t < length rows → AreRows p width rows
+    → IsRow p width (get_or rows t d)
+AreRows-entry p width [] t d l are = absurd (omega arith)
+AreRows-entry p width (r ∷ rows) zero d l are = are.0
+AreRows-entry p width (r ∷ rows) (suc t) d l are = AreRows-entry p width rows t d (omega arith) are.1
 
 add_zeros : (p width : ℕ) → 0 < p → zeros width ≡ add_rows p (zeros width) (zeros width)
 add_zeros p width h = sym (zeros-add_rows p width (zeros width) (IsRow-zeros p width h))

@@ -1,7 +1,6 @@
 -- Rows in a span, place by place, and spans of more rows.
 use Rattle.std.proofs.Common.{ℕ, zero, suc, ◌<◌, List, [], ◌∷◌, ◌++◌, length, get_or, subst, arith, length-append}
 use Rattle.std.proofs.lemmas.List.{get_or_append_left}
-use Rattle.fp_rows.specs.Rows.{IsRow}
 use Rattle.fp_echelon.specs.Span.{AreRows, InSpan, EachInSpan}
 use Rattle.fp_echelon.proofs.SpanLaws.{EachInSpan-own, InSpan-trans}
 
@@ -18,11 +17,6 @@ module _ (p width : ℕ) (rows : List (List ℕ)) where
   pub EachInSpan-append : (xs ys : List (List ℕ)) → EachInSpan p width rows xs → EachInSpan p width rows ys → EachInSpan p width rows (xs ++ ys)
   EachInSpan-append [] ys each each' = each'
   EachInSpan-append (x ∷ xs) ys each each' = (each.0, EachInSpan-append xs ys each.1 each')
-
-pub AreRows-at : (p width : ℕ) (rows : List (List ℕ)) (i : ℕ) (d : List ℕ) → i < length rows → AreRows p width rows → IsRow p width (get_or rows i d)
-AreRows-at p width [] i d h are = absurd (omega arith)
-AreRows-at p width (r ∷ rows) zero d h are = are.0
-AreRows-at p width (r ∷ rows) (suc i) d h are = AreRows-at p width rows i d (omega arith) are.1
 
 pub AreRows-front : (p width : ℕ) (rows more : List (List ℕ)) → AreRows p width (rows ++ more) → AreRows p width rows
 AreRows-front p width [] more are = tt

@@ -6,8 +6,7 @@ use Rattle.std.proofs.lemmas.List.Elements.{All-push, Contains-get_or}
 use Rattle.fp_rows.specs.Rows.{IsRow}
 use Rattle.fp_echelon.specs.Span.{AreRows, InSpan, EachInSpan}
 use Rattle.fp_echelon.specs.Basis.{Echelon, IsBasis}
-use Rattle.fp_echelon.proofs.SpanLaws.{InSpan-last, EachInSpan-front, EachInSpan-push, EachInSpan-trans, AreRows-push}
-use Rattle.relator_spin.proofs.SpanParts.{AreRows-at}
+use Rattle.fp_echelon.proofs.SpanLaws.{AreRows-entry, InSpan-last, EachInSpan-front, EachInSpan-push, EachInSpan-trans, AreRows-push}
 
 -- the first n rows were copied, and there is room for the others
 pub record IsCopyOf (B : Echelon) (n : ℕ) (K : Echelon) : Type 0 where
@@ -31,7 +30,7 @@ module _ (B K : Echelon) (n : ℕ) (copy : IsCopyOf B n K) (basis : IsBasis B) (
       let two = basis.prime in
       let room = copy.room in
       let place : suc n ≡ n + 1 = omega arith in
-      let here : IsRow p q row = AreRows-at p q B.added n [] l basis.added in
+      let here : IsRow p q row = AreRows-entry p q B.added n [] l basis.added in
       let old : AreRows p q K.added =
       subst (λ (m : ℕ). AreRows m q K.added) copy.prime (subst (λ (m : ℕ). AreRows K.prime m K.added) copy.width copy.basis.added) in
       let before : EachInSpan p q (K.added ++ row ∷ []) (take n B.added) =

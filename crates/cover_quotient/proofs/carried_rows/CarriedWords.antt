@@ -1,6 +1,6 @@
 -- The words of a presentation with rows, with its tails replaced by the words of rows: joined words stay joined in the
 -- presentation with carried rows, and the word of a row is joined to the word of the row that it is carried to.
-use Rattle.std.proofs.Common.{◌≡◌, ℕ, zero, suc, ◌+◌, ◌-◌, ◌<◌, ℤ, List, [], ◌∷◌, ◌++◌, get_or, length, map, inl, inr, ap, ap₂, sym, ◌∙◌, subst, arith}
+use Rattle.std.proofs.Common.{◌≡◌, ℕ, suc, ◌+◌, ◌-◌, ◌<◌, ℤ, List, [], ◌∷◌, ◌++◌, get_or, length, map, inl, inr, ap, ap₂, sym, ◌∙◌, subst, arith}
 use Rattle.std.proofs.lemmas.Bool.{cases_lt}
 use Rattle.std.proofs.lemmas.List.{get_or_append_left, get_or-append-add}
 use Rattle.std.proofs.Math.ListN.{get_or-map}
@@ -17,6 +17,7 @@ use Rattle.pq_base.proofs.words.JoinedLaws.{joined-from_equal, joined-sym, joine
 use Rattle.fp_rows.specs.Rows.{IsRow}
 use Rattle.fp_rows.proofs.RowLaws.{scale_row-prime}
 use Rattle.fp_echelon.specs.Span.{AreRows}
+use Rattle.fp_echelon.proofs.SpanLaws.{AreRows-entry}
 use Rattle.pc_presentation.specs.Rowed.{RowedPresentation, IsRowed, power_row, commutator_row, flat}
 use Rattle.pc_presentation.specs.NormalTable.{list_from}
 use Rattle.pc_presentation.proofs.rows.SingleRows.{length-list_from, get_or-list_from}
@@ -45,11 +46,6 @@ pub generators-stay : (n : ℕ) (rows : List (List ℕ)) (w : List ℤ) → HasL
 generators-stay n rows w h =
     sub_same n w (carried_letters n rows) (generators n) h (λ i l. generator-letter n rows i l ∙ sym (get_or-generators n i l))
     ∙ sub-generators n w h
-
-row-within : (p width : ℕ) (rows : List (List ℕ)) (t : ℕ) → AreRows p width rows → t < length rows → IsRow p width (get_or rows t [])
-row-within p width [] t are l = absurd (omega arith)
-row-within p width (r ∷ rows) zero are l = are.0
-row-within p width (r ∷ rows) (suc t) are l = row-within p width rows t are.1 (omega arith)
 
 module _ (Z : RowedPresentation) (rowed : IsRowed Z) (positive : 0 < Z.base.prime) (width : ℕ) (rows : List (List ℕ))
     (are : AreRows Z.base.prime width rows) (count : length rows ≡ Z.width) where
@@ -88,7 +84,7 @@ module _ (Z : RowedPresentation) (rowed : IsRowed Z) (positive : 0 < Z.base.prim
       (joined-trans (joined-append_left front (joined-sym (row-word x l))) (joined-from_equal (flat Q) (sym whole)))
 
   tail_row : (t : ℕ) → t < Z.width → IsRow Z.base.prime width (get_or rows t [])
-  tail_row t l = row-within Z.base.prime width rows t are (omega arith)
+  tail_row t l = AreRows-entry Z.base.prime width rows t [] (omega arith) are
 
   -- relators with their sides
   power-sides : (i : ℕ) → i < n + Z.width → Joined (flat Q) (copies (get_or images i []) Z.base.prime) (sub (power_word (flat Z) i) images)

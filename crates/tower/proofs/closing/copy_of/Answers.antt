@@ -1,7 +1,7 @@
 use Rattle.std.proofs.Common.{◌≡◌, ℕ, ◌+◌, ◌-◌, ◌<◌, List, [], ◌∷◌, ◌++◌, length, get_or, ap, sym, ◌∙◌, subst, arith}
 use Rattle.fp_rows.specs.Row.{PrimeRow}
 use Rattle.fp_echelon.specs.Span.{InSpan}
-use Rattle.relator_spin.proofs.SpanParts.{AreRows-at}
+use Rattle.fp_echelon.proofs.SpanLaws.{AreRows-entry}
 use Rattle.tower.proofs.Copies.{copy-added, copy-left_out}
 use Rattle.tower.proofs.closing.copy_of.Goals.{in-Added, in-Dependent}
 use Rattle.tower.proofs.closing.copy_of.Goals as goal
@@ -10,7 +10,7 @@ pub insert-requires-clause-width : goal.insert-requires-clause-width
 insert-requires-clause-width c =
     let B = c.args.basis.now in
     let i : ℕ = c.loop-i.i + 1 - 1 in
-    let row = AreRows-at B.prime B.width B.added i [] (omega (arith, c.loop-i-test.true, c.rank-rank.ensures.added)) c.rank-rank.ensures.basis.added in
+    let row = AreRows-entry B.prime B.width B.added i [] (omega (arith, c.loop-i-test.true, c.rank-rank.ensures.added)) c.rank-rank.ensures.basis.added in
     ap (λ (r : PrimeRow). length r.entries) c.added.ensures ∙ row.count ∙ sym c.loop-i.invariant.width
 
 pub loop-i-preserved : goal.loop-i-preserved

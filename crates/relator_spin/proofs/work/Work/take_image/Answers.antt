@@ -1,10 +1,9 @@
 use Rattle.std.proofs.Common.{◌≡◌, ◌+◌, ◌-◌, ◌<◌, ◌∷◌, ◌++◌, [], ℕ, List, length, get_or, ap, sym, ◌∙◌, subst, arith}
 use Rattle.fp_rows.specs.Row.{PrimeRow}
 use Rattle.fp_echelon.specs.Matrix.{PrimeMatrix, IsMatrix, times_matrix}
-use Rattle.fp_echelon.proofs.SpanLaws.{IsRow-combine}
+use Rattle.fp_echelon.proofs.SpanLaws.{IsRow-combine, AreRows-entry}
 use Rattle.relator_spin.specs.declared.spun.Spun.{Spun}
 use Rattle.relator_spin.specs.Spinning.{Spinning, IsReady, no_spun, IsOffered}
-use Rattle.relator_spin.proofs.SpanParts.{AreRows-at}
 use Rattle.relator_spin.proofs.OfferedRows.{name, offered-taken, offered-left_out, pushed_name}
 use Rattle.relator_spin.proofs.work.Work.take_image.Goals as goal
 
@@ -15,7 +14,7 @@ apply-requires-clause-width c =
     let count = ready.count in
     let place : c.args.place < length c.self.inside.spun.items =
     subst (λ (w : Spinning). c.args.place < length w.spun) (sym c.self.view_is) c.requires.place in
-    let here = AreRows-at c.self.inside.basis.prime c.self.inside.basis.width c.self.inside.basis.added (c.self.inside.older + c.args.place + 1 - 1) []
+    let here = AreRows-entry c.self.inside.basis.prime c.self.inside.basis.width c.self.inside.basis.added (c.self.inside.older + c.args.place + 1 - 1) []
     (omega arith) c.rank-rank.ensures.basis.added in
     ap (λ (r : PrimeRow). length r.entries) c.added.ensures ∙ here.count
     ∙ ap (λ (w : Spinning). w.basis.width) c.self.view_is ∙ sym c.requires.width

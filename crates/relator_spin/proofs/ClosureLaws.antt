@@ -28,8 +28,8 @@ module _ (p width : ℕ) (ms : List PrimeMatrix) (others : List (List ℕ)) (clo
   EachInSpan-spun_rows rows (s ∷ names) each are =
       let first = are.0 in
       let last = are.1 in (
-        InSpan-row_along s.along (get_or (entries_of rows) (s.relator - 1) []) are.2
-            (EachInSpan-at p width others (entries_of rows) (s.relator - 1) [] (omega (arith, length-map rows (λ (r : PrimeRow). r.entries))) each),
+        InSpan-row_along s.along (get_or (entries_of rows) (s.row - 1) []) are.2
+            (EachInSpan-at p width others (entries_of rows) (s.row - 1) [] (omega (arith, length-map rows (λ (r : PrimeRow). r.entries))) each),
         EachInSpan-spun_rows rows names each are.3,
       )
 

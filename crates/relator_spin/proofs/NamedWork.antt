@@ -11,8 +11,8 @@ use Rattle.relator_spin.specs.Spinning.{Spinning, IsReady, IsNamed, no_spun, IsO
 
 -- a name of one of n rows, times some of m matrices
 pub record IsName (n m : ℕ) (s : Spun) : Type 0 where
-  pub first : 1 ≤ s.relator
-  pub last : s.relator ≤ n
+  pub first : 1 ≤ s.row
+  pub last : s.row ≤ n
   pub along : AreEndoNumbers m s.along
 
 AreNames-push : (n m : ℕ) (names : List Spun) (s : Spun) → AreNames n m names → IsName n m s → AreNames n m (names ++ s ∷ [])
@@ -74,7 +74,7 @@ module _ (rows : List PrimeRow) (ms : List PrimeMatrix) where
   -- the name of an image: one matrix more
   pub name_of_image : (w : Spinning) (i n : ℕ) (m : PrimeMatrix) (s : Spun) → IsReady w → IsNamed rows ms w → i < length w.spun → n < length ms
       → m ≡ get_or ms n m → m.prime ≡ w.basis.prime → m.width ≡ w.basis.width
-      → s ≡ record { relator = (get_or w.spun i no_spun).relator; along = suc n ∷ (get_or w.spun i no_spun).along }
+      → s ≡ record { row = (get_or w.spun i no_spun).row; along = suc n ∷ (get_or w.spun i no_spun).along }
       → IsName (length rows) (length ms) s
       × (times_matrix m.prime m.width m.rows (get_or w.basis.added (w.older + i) []) ≡ spun_row w.basis.prime w.basis.width rows ms s)
   name_of_image w i n m s ready named h l e prime wide name =
@@ -95,7 +95,7 @@ module _ (rows : List PrimeRow) (ms : List PrimeMatrix) where
       )
 
   -- the name of a given row
-  pub name_of_row : (p width n : ℕ) (r : PrimeRow) (s : Spun) → n < length rows → r ≡ get_or rows n r → s ≡ record { relator = n + 1; along = [] }
+  pub name_of_row : (p width n : ℕ) (r : PrimeRow) (s : Spun) → n < length rows → r ≡ get_or rows n r → s ≡ record { row = n + 1; along = [] }
       → IsName (length rows) (length ms) s × (r.entries ≡ spun_row p width rows ms s)
   name_of_row p width n r s h e name =
       let place : n + 1 - 1 ≡ n = omega arith in (

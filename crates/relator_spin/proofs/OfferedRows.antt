@@ -57,12 +57,12 @@ module _ (older : ℕ) (b d : Echelon) (names : List Spun) (image after : PrimeR
       }
 
 abbrev pub name : ℕ → List ℕ → Spun
-name r s = record { relator = r; along = s }
+name r s = record { row = r; along = s }
 
 -- the name of an image, as it is pushed
 pub pushed_name : (names : List Spun) (i n : ℕ) (parent : Spun) (along : List ℕ) → i < length names → parent ≡ get_or names i parent
     → along ≡ n ∷ parent.along
-    → name parent.relator along ≡ name (get_or names i no_spun).relator (n ∷ (get_or names i no_spun).along)
+    → name parent.row along ≡ name (get_or names i no_spun).row (n ∷ (get_or names i no_spun).along)
 pushed_name names i n parent along h e e' =
-    ap (name parent.relator) e'
-    ∙ ap (λ (t : Spun). name t.relator (n ∷ t.along)) (e ∙ get_or_default names i parent no_spun h)
+    ap (name parent.row) e'
+    ∙ ap (λ (t : Spun). name t.row (n ∷ t.along)) (e ∙ get_or_default names i parent no_spun h)

@@ -64,7 +64,7 @@ kept_in_span old w new x grown ready step s =
     at_start old w new.basis.added x grown (InSpan-grown w new ready.basis step x (from_start old w w.basis.added x grown s))
 
 pub RowsTaken-more : (rows : List PrimeRow) (old w new : Spinning) (n : ℕ) (r : PrimeRow) (s : Spun) → n < length rows → r ≡ get_or rows n r
-    → s ≡ record { relator = n + 1; along = [] } → RowsTaken rows old w n → IsOffered r.entries s w new → RowsTaken rows old new (n + 1)
+    → s ≡ record { row = n + 1; along = [] } → RowsTaken rows old w n → IsOffered r.entries s w new → RowsTaken rows old new (n + 1)
 RowsTaken-more rows old w new n r s h e name so offered =
     let step = HasGrown-offered r.entries s w new offered in
     record {
@@ -121,7 +121,7 @@ longer old new ready ready' grown =
 
 pub ImagesTaken-more : (ms : List PrimeMatrix) (old w new : Spinning) (place n : ℕ) (m : PrimeMatrix) (s : Spun) → place < length old.spun
     → n < length ms → m ≡ get_or ms n m → AreMatricesOver old.basis.prime old.basis.width ms
-    → s ≡ record { relator = (get_or w.spun place no_spun).relator; along = suc n ∷ (get_or w.spun place no_spun).along }
+    → s ≡ record { row = (get_or w.spun place no_spun).row; along = suc n ∷ (get_or w.spun place no_spun).along }
     → ImagesTaken ms old w place n
     → IsOffered (times_matrix m.prime m.width m.rows (get_or w.basis.added (w.older + place) [])) s w new
     → ImagesTaken ms old new place (n + 1)

@@ -29,7 +29,7 @@ row_along p width ms (e ∷ s) x = times_matrix p width (matrix_at ms e) (row_al
 
 -- the row that a name says
 abbrev pub spun_row : ℕ → ℕ → List PrimeRow → List PrimeMatrix → Spun → List ℕ
-spun_row p width rows ms s = row_along p width ms s.along (get_or (entries_of rows) (s.relator - 1) [])
+spun_row p width rows ms s = row_along p width ms s.along (get_or (entries_of rows) (s.row - 1) [])
 
 abbrev pub spun_rows : ℕ → ℕ → List PrimeRow → List PrimeMatrix → List Spun → List (List ℕ)
 spun_rows p width rows ms [] = []
@@ -38,7 +38,7 @@ spun_rows p width rows ms (s ∷ names) = spun_row p width rows ms s ∷ spun_ro
 -- names of one of n rows, times some of m matrices
 abbrev pub AreNames : ℕ → ℕ → List Spun → Type 0
 AreNames n m [] = Unit {0}
-AreNames n m (s ∷ names) = (1 ≤ s.relator) × (s.relator ≤ n) × AreEndoNumbers m s.along × AreNames n m names
+AreNames n m (s ∷ names) = (1 ≤ s.row) × (s.row ≤ n) × AreEndoNumbers m s.along × AreNames n m names
 
 -- each matrix carries the span of some rows into itself
 abbrev pub IsClosed : ℕ → ℕ → List PrimeMatrix → List (List ℕ) → Type 0

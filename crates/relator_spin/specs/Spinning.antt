@@ -29,7 +29,7 @@ pub record IsNamed (rows : List PrimeRow) (ms : List PrimeMatrix) (w : Spinning)
   pub names : AreNames (length rows) (length ms) w.spun
 
 abbrev pub no_spun : Spun
-no_spun = record { relator = 0; along = [] }
+no_spun = record { row = 0; along = [] }
 
 -- row x is added under the name s
 pub record IsTaken (x : List ℕ) (s : Spun) (old new : Spinning) : Type 0 where

@@ -6,7 +6,7 @@ use pq_base::Path;
 #[derive(Debug, Drop)]
 pub struct Spun {
     /// The number of the given row, counted from 1.
-    pub relator: u32,
+    pub row: u32,
     /// The numbers of the matrices, counted from 1. The row is multiplied by the last of them first.
     pub along: Path,
 }

@@ -86,15 +86,15 @@ impl Work {
     }
 
     /// Adds a given row, unless it is in the span.
-    fn take_row(&mut self, alloc: Global, row: &Row, relator: u32) -> Result<(), NoMemory>
+    fn take_row(&mut self, alloc: Global, row: &Row, number: u32) -> Result<(), NoMemory>
         requires ready { IsReady self.old }
         requires prime { row.now.prime ≡ self.old.basis.prime }
         requires width { length row.now.entries ≡ self.old.basis.width }
-        ensures { OnOk result (IsOffered row.now.entries (record { relator = relator; along = [] }) self.old self.new) }
+        ensures { OnOk result (IsOffered row.now.entries (record { row = number; along = [] }) self.old self.new) }
     {
         if insert_within(&mut self.basis, row) {
             let along = Path::of(alloc, &[])?;
-            self.spun.push(Spun { relator, along })?;
+            self.spun.push(Spun { row: number, along })?;
         }
         Ok(())
     }
@@ -113,15 +113,15 @@ impl Work {
         requires width { matrix.now.width ≡ self.old.basis.width }
         ensures { let x = times_matrix matrix.now.prime matrix.now.width matrix.now.rows (get_or self.old.basis.added (self.old.older + place) []) in
             let parent = get_or self.old.spun place no_spun in
-            OnOk result (IsOffered x (record { relator = parent.relator; along = number ∷ parent.along }) self.old self.new) }
+            OnOk result (IsOffered x (record { row = parent.row; along = number ∷ parent.along }) self.old self.new) }
     {
         let _rank = self.basis.rank();
         matrix.apply(self.basis.added(self.older + place + 1), &mut self.image);
         if insert_within(&mut self.basis, &self.image) {
             let parent = &self.spun[place as usize];
-            let relator = parent.relator;
+            let row = parent.row;
             let along = path_after(alloc, number, &parent.along)?;
-            self.spun.push(Spun { relator, along })?;
+            self.spun.push(Spun { row, along })?;
         }
         Ok(())
     }

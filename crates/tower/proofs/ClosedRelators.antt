@@ -89,7 +89,7 @@ module _ (L : LPresentation) (is : IsLPresentation L) (C : CoverOf) (cover : IsC
     HasOne s = HasSpannedRow L C push U (recorded_source (spun_relator s))
 
     -- the named row and the row of the span are rows of one word
-    named-held : (s : Spun) → 1 ≤ s.relator → s.relator ≤ length xs → AreEndoNumbers (length ms) s.along → HasOne s
+    named-held : (s : Spun) → 1 ≤ s.row → s.row ≤ length xs → AreEndoNumbers (length ms) s.along → HasOne s
         → InSpan C.answer.presentation.prime (length C.sources) U (spun_row C.answer.presentation.prime (length C.sources) xs ms s)
     named-held s first last numbers one =
         let two : 2 ≤ p = cover.answer.presentation.prime in

@@ -60,17 +60,17 @@ module _ (L : LPresentation) (C : CoverOf) (cover : IsCover C) (ms : List PrimeM
   numbers-of s numbers = subst (λ (n : ℕ). AreEndoNumbers n s) lifts.count numbers
 
   -- the row that a name says is that of the relator
-  pub IsRow-spun_row : (s : Spun) → 1 ≤ s.relator → s.relator ≤ length xs → AreEndoNumbers (length ms) s.along
+  pub IsRow-spun_row : (s : Spun) → 1 ≤ s.row → s.row ≤ length xs → AreEndoNumbers (length ms) s.along
       → IsRow C.answer.presentation.prime (length C.sources) (spun_row C.answer.presentation.prime (length C.sources) xs ms s)
   IsRow-spun_row s first last numbers =
       let count = given.count in
-      IsRow-row_along (s.relator - 1) (omega arith) s.along (numbers-of s.along numbers)
+      IsRow-row_along (s.row - 1) (omega arith) s.along (numbers-of s.along numbers)
 
-  pub spun-row : (s : Spun) → 1 ≤ s.relator → s.relator ≤ length xs → AreEndoNumbers (length ms) s.along
+  pub spun-row : (s : Spun) → 1 ≤ s.row → s.row ≤ length xs → AreEndoNumbers (length ms) s.along
       → HasRow C (named_word L (spun_relator s)) (spun_row C.answer.presentation.prime (length C.sources) xs ms s)
   spun-row s first last numbers =
       let count = given.count in
-      along-row (s.relator - 1) (omega arith) s.along (numbers-of s.along numbers)
+      along-row (s.row - 1) (omega arith) s.along (numbers-of s.along numbers)
 
   pub spun-rows : (names : List Spun) → AreNames (length xs) (length ms) names
       → AllZip (λ (s : Spun) (x : List ℕ). HasRow C (named_word L (spun_relator s)) x) names

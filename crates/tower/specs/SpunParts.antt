@@ -25,7 +25,7 @@ use Rattle.tower.specs.Answers.{IsGrown}
 
 -- the name of a new row of a closure as a relator
 abbrev pub spun_relator : Spun → Relator
-spun_relator s = Iterated s.relator s.along
+spun_relator s = Iterated s.row s.along
 
 abbrev pub spun_relators : List Spun → List Relator
 spun_relators names = map spun_relator names

@@ -83,7 +83,7 @@ fn relators_of(alloc: Global, names: Vec<Spun>) -> Result<Vec<Relator>, NoMemory
 {
     let mut relators = Vec::new(alloc);
     for name in names {
-        relators.push(Relator::Iterated(name.relator, name.along))?;
+        relators.push(Relator::Iterated(name.row, name.along))?;
     }
     Ok(relators)
 }

@@ -233,10 +233,10 @@ fn closure_of(alloc: Global, cover: &Cover, row: Row, matrix: Matrix) -> Result<
 
 /// Writes a row that was added, and its name.
 fn show_added(row: &Row, name: &Spun, out: &mut String) -> Result<()> {
-    let relator = name.relator;
+    let number = name.row;
     out.push_str("   ")?;
     show_row(out, row)?;
-    write!(out, " from {relator} along")?;
+    write!(out, " from {number} along")?;
     show_numbers(out, name.along.numbers())?;
     out.push('\n')?;
     Ok(())

@@ -24,7 +24,7 @@ pub loop-index-preserved : goal.loop-index-preserved
 loop-index-preserved c =
     let parent : Spun = get_or c.loop-index.self.spun c.args.place no_spun in
     ImagesTaken-more c.args.matrices.now c.args.self.now c.loop-index.self c.take_image.new.self c.args.place c.loop-index.index
-    c.index-matrices-index.result (record { relator = parent.relator; along = (c.loop-index.index + 1) ∷ parent.along }) c.requires.place
+    c.index-matrices-index.result (record { row = parent.row; along = (c.loop-index.index + 1) ∷ parent.along }) c.requires.place
     c.loop-index-test.true c.index-matrices-index.is c.requires.matrices
-    (ap (λ (k : ℕ). record { relator = parent.relator; along = k ∷ parent.along }) (add-one c.loop-index.index)) c.loop-index.invariant
+    (ap (λ (k : ℕ). record { row = parent.row; along = k ∷ parent.along }) (add-one c.loop-index.index)) c.loop-index.invariant
     c.in_ok-take_image.ensures

@@ -32,7 +32,7 @@ abbrev image : Spinning → PrimeMatrix → ℕ → List ℕ
 image w m place = times_matrix m.prime m.width m.rows (get_or w.basis.added (w.older + place) [])
 
 abbrev image_name : Spinning → ℕ → ℕ → Spun
-image_name w place number = name (get_or w.spun place no_spun).relator (number ∷ (get_or w.spun place no_spun).along)
+image_name w place number = name (get_or w.spun place no_spun).row (number ∷ (get_or w.spun place no_spun).along)
 
 image_is : (w : Spinning) (m : PrimeMatrix) (place : ℕ) (r out : PrimeRow) → r ≡ record { prime = w.basis.prime; entries = get_or w.basis.added (w.older + place + 1 - 1) [] }
     → out ≡ record { prime = w.image.prime; entries = times_matrix m.prime m.width m.rows r.entries } → out.entries ≡ image w m place

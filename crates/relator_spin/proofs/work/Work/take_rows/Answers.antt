@@ -21,7 +21,7 @@ take_row-requires-clause-width c =
 pub loop-place-preserved : goal.loop-place-preserved
 loop-place-preserved c =
     RowsTaken-more c.args.rows.now c.args.self.now c.loop-place.self c.take_row.new.self c.loop-place.place c.index-rows-place.result
-    (record { relator = c.loop-place.place + 1; along = [] }) c.loop-place-test.true c.index-rows-place.is refl c.loop-place.invariant
+    (record { row = c.loop-place.place + 1; along = [] }) c.loop-place-test.true c.index-rows-place.is refl c.loop-place.invariant
     c.in_ok-take_row.ensures
 
 pub returns-clause-in_span : goal.returns-clause-in_span

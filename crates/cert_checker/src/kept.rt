@@ -3,7 +3,8 @@
 ghost use Rattle.std.specs.Prelude.{◌≡◌, ◌↔◌, ◌≤◌, ◌-◌, false, get_or, length, All, IfOk, IfSome, IfNone, IsTrue};
 ghost use Rattle.pq_base.specs.Answer.{class_of};
 ghost use Rattle.pq_base.specs.Answer.Definition.{image};
-ghost use Rattle.p_cover.specs.Sources.{source_of, relation_source};
+ghost use Rattle.pc_presentation.specs.Definition.{definition_of};
+ghost use Rattle.p_cover.specs.Sources.{relation_source};
 ghost use Rattle.p_cover.specs.CoverLaws.{IsSource};
 ghost use Rattle.pc_presentation.specs.Relation.{IsRelation};
 ghost use Rattle.cover_quotient.specs.Kept.{is_listed};
@@ -13,8 +14,8 @@ ghost use Rattle.cover_quotient.specs.NextParts.{IsPlace};
 ghost use Rattle.cert_checker.specs.KeptTails.{tails_of, kept_tails, IsLineOf};
 
 use derivation_log::CertTail;
-use p_cover::{Cover, TailSource};
-use pc_presentation::{Answer, Relation};
+use p_cover::Cover;
+use pc_presentation::{Answer, Definition, Relation};
 use pq_base::NoMemory;
 use std::alloc::Global;
 
@@ -63,15 +64,15 @@ pub(crate) fn may_all_be_kept(cover: &Cover, kept: &[u16]) -> bool
 }
 
 /// Whether a tail may be kept: at class 0 that of an image, later that of a relation with the empty word.
-fn may_be_kept(answer: &Answer, source: TailSource) -> bool
-    requires { IsSource answer.now (source_of source) }
-    ensures { IsTrue result ↔ MayBeKept answer.now (class_of answer.now) (source_of source) }
+fn may_be_kept(answer: &Answer, source: Definition) -> bool
+    requires { IsSource answer.now (definition_of source) }
+    ensures { IsTrue result ↔ MayBeKept answer.now (class_of answer.now) (definition_of source) }
 {
     let is_first = answer.class() == 0;
     match source {
-        TailSource::Image(_) => is_first,
-        TailSource::Power(j) => !is_first && has_empty_word(answer, Relation::Power(j)),
-        TailSource::Commutator(j, i) => {
+        Definition::Image(_) => is_first,
+        Definition::Power(j) => !is_first && has_empty_word(answer, Relation::Power(j)),
+        Definition::Commutator(j, i) => {
             !is_first && has_empty_word(answer, Relation::Commutator(j, i))
         }
     }

@@ -6,7 +6,6 @@ ghost use Rattle.pq_base.specs.Answer.{class_of};
 ghost use Rattle.pc_presentation.specs.Syllable.{syllables_of};
 ghost use Rattle.pc_presentation.specs.Definition.{definition_of};
 ghost use Rattle.pc_presentation.specs.Parts.{words_of};
-ghost use Rattle.p_cover.specs.Sources.{source_of};
 ghost use Rattle.cover_quotient.specs.NextAnswer.{sources_at, combined_answer};
 ghost use Rattle.cover_quotient.specs.NextParts.{IsPlace};
 ghost use Rattle.cover_quotient.specs.Combinations.{AreCombinationsOf, AreKept};
@@ -14,7 +13,7 @@ ghost use Rattle.cover_quotient.specs.Defining.{MayBeKept};
 
 use crate::combinations::Combinations;
 use crate::next_presentation::next_presentation;
-use p_cover::{Cover, TailSource};
+use p_cover::Cover;
 use pc_presentation::{Answer, Definition, Syllable};
 use pq_base::{NoMemory, names_copied};
 use std::alloc::Global;
@@ -76,20 +75,9 @@ fn push_sources(
         ≡ map definition_of definitions.old.items ++ sources_at tails.now cover.now.sources) }
 {
     for k in 0..tails.len() {
-        definitions.push(as_definition(cover.source_of(tails[k])))?;
+        definitions.push(cover.source_of(tails[k]))?;
     }
     Ok(())
-}
-
-/// A source as the definition of a generator.
-fn as_definition(source: TailSource) -> Definition
-    ensures { definition_of result ≡ source_of source }
-{
-    match source {
-        TailSource::Commutator(j, i) => Definition::Commutator(j, i),
-        TailSource::Power(j) => Definition::Power(j),
-        TailSource::Image(i) => Definition::Image(i),
-    }
 }
 
 /// The images of all given generators.
@@ -120,6 +108,6 @@ fn next_image(cover: &Cover, combinations: &Combinations, i: u16) -> Result<Vec<
 {
     let _cover = cover.pcp();
     let answer = cover.answer();
-    let tail = cover.tail_of(TailSource::Image(i));
+    let tail = cover.tail_of(Definition::Image(i));
     combinations.with_tail(answer.image(i), answer.pcp().rank(), tail)
 }

@@ -7,7 +7,7 @@ ghost use Rattle.pq_base.specs.EntryWords.{IsSourceOf, spelling_words, entry_wor
 ghost use Rattle.pc_presentation.specs.Syllable.{AreGenerators, letters_of};
 ghost use Rattle.pc_presentation.specs.Tailed.{rowed_presentation};
 ghost use Rattle.pc_presentation.specs.Scratch.{IsScratch};
-ghost use Rattle.p_cover.specs.Sources.{source_of};
+ghost use Rattle.pc_presentation.specs.Definition.{definition_of};
 ghost use Rattle.p_cover.specs.Covers.{cover_presentation};
 ghost use Rattle.p_cover.specs.Images.{AreLifted};
 ghost use Rattle.endo_lift.specs.Values.{IsValue, AreSpelled, IsRightSide, IsRoom};
@@ -15,8 +15,8 @@ ghost use Rattle.endo_lift.specs.Values.{IsValue, AreSpelled, IsRightSide, IsRoo
 use crate::room::Room;
 use crate::spelled::left_value;
 use free_words::Word;
-use p_cover::{Cover, Images, TailSource};
-use pc_presentation::{Collect, Elem, Relation, Scratch, Syllable, inverse, product};
+use p_cover::{Cover, Images};
+use pc_presentation::{Collect, Definition, Elem, Relation, Scratch, Syllable, inverse, product};
 
 /// Makes the value in the room that of the word that a tail from this source stands for, carried along the endomorphism:
 /// what the left side spells, behind the inverse of what the right side spells. The elements are the values of what the
@@ -27,7 +27,7 @@ pub(crate) fn entry_value<C: Collect>(
     images: &Images,
     endo: &[Word],
     elements: &[Elem],
-    source: TailSource,
+    source: Definition,
     room: &mut Room,
 )
     requires scratch { IsScratch (cover_presentation cover.now) s.old }
@@ -36,11 +36,11 @@ pub(crate) fn entry_value<C: Collect>(
     requires letters { AreWords (length cover.now.answer.names) endo.now }
     requires spelled { AreSpelled cover.now endo.now elements.now }
     requires rank { length elements.now ≡ cover.now.answer.presentation.rank }
-    requires source { IsSourceOf cover.now.answer (source_of source) }
+    requires source { IsSourceOf cover.now.answer (definition_of source) }
     requires room { IsRoom (cover_presentation cover.now) room.old }
     ensures scratch { IsScratch (cover_presentation cover.now) s.new }
     ensures room { IsRoom (cover_presentation cover.now) room.new }
-    ensures value { IsValue cover.now (sub (entry_word cover.now.answer (source_of source)) endo.now) room.new.value }
+    ensures value { IsValue cover.now (sub (entry_word cover.now.answer (definition_of source)) endo.now) room.new.value }
 {
     let pcp = cover.pcp();
     right_value(s, cover, endo, elements, right_side(cover, source), room);
@@ -50,16 +50,16 @@ pub(crate) fn entry_value<C: Collect>(
 }
 
 /// The right side of a relation, or the image of a given generator.
-fn right_side<'a>(cover: &'a Cover, source: TailSource) -> &'a [Syllable]
-    requires { IsSourceOf cover.now.answer (source_of source) }
-    ensures side { IsRightSide cover.now.answer (source_of source) result.now }
+fn right_side<'a>(cover: &'a Cover, source: Definition) -> &'a [Syllable]
+    requires { IsSourceOf cover.now.answer (definition_of source) }
+    ensures side { IsRightSide cover.now.answer (definition_of source) result.now }
     ensures generators { AreGenerators cover.now.answer.presentation.rank result.now }
 {
     let pcp = cover.pcp();
     match source {
-        TailSource::Commutator(j, i) => pcp.word(Relation::Commutator(j, i)),
-        TailSource::Power(j) => pcp.word(Relation::Power(j)),
-        TailSource::Image(i) => cover.answer().image(i),
+        Definition::Commutator(j, i) => pcp.word(Relation::Commutator(j, i)),
+        Definition::Power(j) => pcp.word(Relation::Power(j)),
+        Definition::Image(i) => cover.answer().image(i),
     }
 }
 

@@ -8,13 +8,12 @@ ghost use Rattle.pq_base.specs.EntryWords.{spelling_words};
 ghost use Rattle.pc_presentation.specs.Definition.{definition_of};
 ghost use Rattle.pc_presentation.specs.Tailed.{rowed_presentation, IsElement};
 ghost use Rattle.pc_presentation.specs.Scratch.{IsScratch};
-ghost use Rattle.p_cover.specs.Sources.{source_of};
 ghost use Rattle.p_cover.specs.Covers.{cover_presentation};
 ghost use Rattle.p_cover.specs.Images.{AreLifted};
 ghost use Rattle.endo_lift.specs.Values.{IsValue, AreSpelled, IsUpTo};
 
 use free_words::Word;
-use p_cover::{Cover, Images, TailSource};
+use p_cover::{Cover, Images};
 use pc_presentation::{Collect, Definition, Elem, Scratch, commutator, evaluate, power};
 use pq_base::NoMemory;
 use std::alloc::Global;
@@ -39,22 +38,11 @@ pub(crate) fn spelled_values<C: Collect>(
     let mut elements = Vec::with_capacity(alloc, rank as usize)?;
     for k in 0..rank {
         let mut element = Elem::one(alloc, cover.pcp())?;
-        let source = source(cover.answer().definition(k + 1));
+        let source = cover.answer().definition(k + 1);
         left_value(s, cover, images, endo, &elements, source, &mut element);
         elements.push(element)?;
     }
     Ok(elements)
-}
-
-/// A definition as a source.
-fn source(definition: Definition) -> TailSource
-    ensures { source_of result ≡ definition_of definition }
-{
-    match definition {
-        Definition::Image(i) => TailSource::Image(i),
-        Definition::Commutator(j, i) => TailSource::Commutator(j, i),
-        Definition::Power(j) => TailSource::Power(j),
-    }
 }
 
 /// The value of what the left side of a relation spells, or of a given generator, carried along the endomorphism. The
@@ -65,7 +53,7 @@ pub(crate) fn left_value<C: Collect>(
     images: &Images,
     endo: &[Word],
     elements: &[Elem],
-    source: TailSource,
+    source: Definition,
     out: &mut Elem,
 )
     requires scratch { IsScratch (cover_presentation cover.now) s.old }
@@ -73,29 +61,29 @@ pub(crate) fn left_value<C: Collect>(
     requires count { length endo.now ≡ length cover.now.answer.names }
     requires letters { AreWords (length cover.now.answer.names) endo.now }
     requires spelled { AreSpelled cover.now endo.now elements.now }
-    requires source { IsUpTo (length endo.now) (length elements.now) (source_of source) }
+    requires source { IsUpTo (length endo.now) (length elements.now) (definition_of source) }
     requires out { IsElement (cover_presentation cover.now) out.old }
     ensures scratch { IsScratch (cover_presentation cover.now) s.new }
     ensures value { let A = cover.now.answer in
-        IsValue cover.now (sub (spelled A.presentation.prime (spelling_words A) (source_of source)) endo.now) out.new }
+        IsValue cover.now (sub (spelled A.presentation.prime (spelling_words A) (definition_of source)) endo.now) out.new }
 {
     let pcp = cover.pcp();
     match source {
-        TailSource::Commutator(j, i) => commutator(
+        Definition::Commutator(j, i) => commutator(
             s,
             pcp,
             &elements[j as usize - 1],
             &elements[i as usize - 1],
             out,
         ),
-        TailSource::Power(j) => power(
+        Definition::Power(j) => power(
             s,
             pcp,
             &elements[j as usize - 1],
             u32::from(pcp.prime().value()),
             out,
         ),
-        TailSource::Image(i) => evaluate(
+        Definition::Image(i) => evaluate(
             s,
             pcp,
             endo[i as usize - 1].letters(),

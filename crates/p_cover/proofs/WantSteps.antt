@@ -8,8 +8,8 @@ use Rattle.std.proofs.lemmas.List.Elements.{filter-append}
 use Rattle.pq_base.specs.Answer.{Answer, Definition as Source, IsAnswer, AreWeights, last_or_zero, class_of}
 use Rattle.pq_base.specs.Answer.Definition.{image, commutator}
 use Rattle.pq_base.specs.Canonical.{numbers_from, weight_of, is_among, is_qualifying, commutators_of, commutators_up_to, all_commutators, all_powers, all_images, want_order}
-use Rattle.p_cover.specs.declared.source.TailSource.{TailSource}
-use Rattle.p_cover.specs.Sources.{source_of}
+use Rattle.pc_presentation.specs.declared.definition.Definition.{Definition}
+use Rattle.pc_presentation.specs.Definition.{definition_of}
 use Rattle.p_cover.specs.Covers.{all_sources}
 use Rattle.p_cover.specs.Wanted.{is_wanted, wanted}
 use Rattle.pq_base.proofs.NumberLists.{numbers-more, map_numbers-more}
@@ -44,17 +44,17 @@ module _ (A : Answer) (k : ℕ) (first : Bool) where
       ∙ ap (λ (l : List Source). commutators_up_to (numbers_from 1 i) ++ l) (append-nil (commutators_of (i + 1))))
 
   -- a source is put at the end where it is wanted
-  pub put_wanted : (xs ys : List TailSource) (s : TailSource) → is_wanted A k first (source_of s) ≡ true → ys ≡ xs ++ s ∷ []
-      → map source_of ys ≡ map source_of xs ++ wanted A k first (source_of s ∷ [])
+  pub put_wanted : (xs ys : List Definition) (s : Definition) → is_wanted A k first (definition_of s) ≡ true → ys ≡ xs ++ s ∷ []
+      → map definition_of ys ≡ map definition_of xs ++ wanted A k first (definition_of s ∷ [])
   put_wanted xs ys s h e =
-      ap (map source_of) e ∙ map_push source_of xs s
-      ∙ ap (λ (l : List Source). map source_of xs ++ l) (sym (cond-true (is_wanted A k first (source_of s)) (source_of s ∷ []) [] h))
+      ap (map definition_of) e ∙ map_push definition_of xs s
+      ∙ ap (λ (l : List Source). map definition_of xs ++ l) (sym (cond-true (is_wanted A k first (definition_of s)) (definition_of s ∷ []) [] h))
 
-  pub put_unwanted : (xs : List TailSource) (s : TailSource) → is_wanted A k first (source_of s) ≡ false
-      → map source_of xs ≡ map source_of xs ++ wanted A k first (source_of s ∷ [])
+  pub put_unwanted : (xs : List Definition) (s : Definition) → is_wanted A k first (definition_of s) ≡ false
+      → map definition_of xs ≡ map definition_of xs ++ wanted A k first (definition_of s ∷ [])
   put_unwanted xs s h =
-      sym (append-nil (map source_of xs))
-      ∙ ap (λ (l : List Source). map source_of xs ++ l) (sym (cond-false (is_wanted A k first (source_of s)) (source_of s ∷ []) [] h))
+      sym (append-nil (map definition_of xs))
+      ∙ ap (λ (l : List Source). map definition_of xs ++ l) (sym (cond-false (is_wanted A k first (definition_of s)) (definition_of s ∷ []) [] h))
 
 -- the commutators of a generator from the place before it
 pub commutators_of-before : (j : ℕ) → 1 ≤ j → map (λ i. commutator j i) (numbers_from 1 (j - 1)) ≡ commutators_of j

@@ -6,14 +6,6 @@ use Rattle.pq_base.specs.Answer.Definition.{image, commutator, power}
 use Rattle.pq_base.specs.Canonical.{same_definition}
 use Rattle.pc_presentation.specs.declared.relation.Relation.{Relation}
 use Rattle.pc_presentation.specs.declared.relation.Relation.TheVariants.{Power as PowerOf, Commutator as CommutatorOf}
-use Rattle.p_cover.specs.declared.source.TailSource.{TailSource}
-use Rattle.p_cover.specs.declared.source.TailSource.TheVariants.{Commutator, Power, Image}
-
--- a source as the program has it, and as answers have it
-abbrev pub source_of : TailSource → Source
-source_of (Commutator j i) = commutator j i
-source_of (Power j) = power j
-source_of (Image i) = image i
 
 -- a relation as a source
 abbrev pub relation_source : Relation → Source

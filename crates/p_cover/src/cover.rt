@@ -3,14 +3,14 @@
 ghost use Rattle.std.specs.Prelude.{◌≡◌, ◌≤◌, ◌-◌, ◌↔◌, get_or, length, map, IfOk, IsTrue};
 ghost use Rattle.pq_base.specs.Answer.Definition.{image};
 ghost use Rattle.pc_presentation.specs.Relation.{IsRelation};
-ghost use Rattle.p_cover.specs.Sources.{source_of, relation_source, place_in, IsPartOf};
+ghost use Rattle.pc_presentation.specs.Definition.{definition_of};
+ghost use Rattle.p_cover.specs.Sources.{relation_source, place_in, IsPartOf};
 ghost use Rattle.p_cover.specs.Covers.{CoverOf, IsCover, all_sources, cover_presentation};
 
 use crate::given::presentation_with_tails;
 use crate::image_tails::image_tails;
-use crate::source::TailSource;
 use crate::want::want_order;
-use pc_presentation::{Answer, Pcp, Relation};
+use pc_presentation::{Answer, Definition, Pcp, Relation};
 use pq_base::NoMemory;
 use std::alloc::Global;
 use std::marker::Model;
@@ -21,24 +21,24 @@ use std::marker::Model;
 pub struct Cover {
     answer: Answer,
     pcp: Pcp,
-    sources: Vec<TailSource>,
+    sources: Vec<Definition>,
     /// for each given generator the tail of its image
     image_tails: Vec<Option<u16>>,
 }
 
 impl Model for Cover {
     ghost use Rattle.std.specs.Prelude.{◌≡◌, map};
-    ghost use Rattle.p_cover.specs.Sources.{source_of};
+    ghost use Rattle.pc_presentation.specs.Definition.{definition_of};
     ghost use Rattle.p_cover.specs.Covers.{CoverOf, IsCover, cover_presentation};
     ghost use Rattle.p_cover.specs.ImageTails.{tails_of_images};
 
     ghost Value = { CoverOf };
 
-    ghost view = { λ c. record { answer = c.answer; sources = map source_of c.sources.items } };
+    ghost view = { λ c. record { answer = c.answer; sources = map definition_of c.sources.items } };
 
-    ghost invariant = { λ c. (c.pcp ≡ cover_presentation (record { answer = c.answer; sources = map source_of c.sources.items }))
-        × (c.image_tails.items ≡ tails_of_images c.answer (map source_of c.sources.items))
-        × IsCover (record { answer = c.answer; sources = map source_of c.sources.items }) };
+    ghost invariant = { λ c. (c.pcp ≡ cover_presentation (record { answer = c.answer; sources = map definition_of c.sources.items }))
+        × (c.image_tails.items ≡ tails_of_images c.answer (map definition_of c.sources.items))
+        × IsCover (record { answer = c.answer; sources = map definition_of c.sources.items }) };
 }
 
 impl Cover {
@@ -65,22 +65,22 @@ impl Cover {
     }
 
     /// What a tail, counted from 1, comes from.
-    pub fn source_of(&self, tail: u16) -> TailSource
+    pub fn source_of(&self, tail: u16) -> Definition
         requires from_one { 1 ≤ tail }
         requires in_range { tail ≤ length self.now.sources }
-        ensures { source_of result ≡ get_or self.now.sources (tail - 1) (image 0) }
+        ensures { definition_of result ≡ get_or self.now.sources (tail - 1) (image 0) }
     {
         self.sources[tail as usize - 1]
     }
 
     /// The tail of a relation or an image, counted from 1, if it carries one. Numbers out of range have none.
-    pub fn tail_of(&self, t: TailSource) -> Option<u16>
-        ensures { result ≡ place_in self.now.sources (source_of t) }
+    pub fn tail_of(&self, t: Definition) -> Option<u16>
+        ensures { result ≡ place_in self.now.sources (definition_of t) }
     {
         match t {
-            TailSource::Commutator(j, i) => self.relation_tail(Relation::Commutator(j, i)),
-            TailSource::Power(j) => self.relation_tail(Relation::Power(j)),
-            TailSource::Image(i) => self.image_tail(i),
+            Definition::Commutator(j, i) => self.relation_tail(Relation::Commutator(j, i)),
+            Definition::Power(j) => self.relation_tail(Relation::Power(j)),
+            Definition::Image(i) => self.image_tail(i),
         }
     }
 
@@ -117,9 +117,9 @@ fn is_relation(r: Relation, rank: u16) -> bool
 
 /// The cover in which exactly the given relations and images carry tails, numbered in their order. They are entries of the
 /// want order, in that order and each once.
-pub fn cover_of(alloc: Global, answer: &Answer, sources: &[TailSource]) -> Result<Cover, NoMemory>
-    requires { IsPartOf (map source_of sources.now) (all_sources answer.now) }
-    ensures { IfOk result (λ c. c ≡ record { answer = answer.now; sources = map source_of sources.now }) }
+pub fn cover_of(alloc: Global, answer: &Answer, sources: &[Definition]) -> Result<Cover, NoMemory>
+    requires { IsPartOf (map definition_of sources.now) (all_sources answer.now) }
+    ensures { IfOk result (λ c. c ≡ record { answer = answer.now; sources = map definition_of sources.now }) }
 {
     cover_with(alloc, answer, Vec::from_slice(alloc, sources)?)
 }
@@ -132,9 +132,9 @@ pub fn full_cover(alloc: Global, answer: &Answer) -> Result<Cover, NoMemory>
 }
 
 /// The cover in which these carry tails.
-fn cover_with(alloc: Global, answer: &Answer, sources: Vec<TailSource>) -> Result<Cover, NoMemory>
-    requires { IsPartOf (map source_of sources.items) (all_sources answer.now) }
-    ensures { IfOk result (λ c. c ≡ record { answer = answer.now; sources = map source_of sources.items }) }
+fn cover_with(alloc: Global, answer: &Answer, sources: Vec<Definition>) -> Result<Cover, NoMemory>
+    requires { IsPartOf (map definition_of sources.items) (all_sources answer.now) }
+    ensures { IfOk result (λ c. c ≡ record { answer = answer.now; sources = map definition_of sources.items }) }
 {
     let _rank = answer.pcp().rank();
     let pcp = presentation_with_tails(alloc, answer, &sources)?;

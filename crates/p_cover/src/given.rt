@@ -2,13 +2,13 @@
 
 ghost use Rattle.std.specs.Prelude.{◌≡◌, ◌≤◌, ◌<◌, ◌+◌, ◌-◌, ◌^◌, All, IfOk, OnOk, map, length};
 ghost use Rattle.pc_presentation.specs.Relation.{IsRelation, IsTail};
-ghost use Rattle.p_cover.specs.Sources.{source_of, IsPartOf};
+ghost use Rattle.pc_presentation.specs.Definition.{definition_of};
+ghost use Rattle.p_cover.specs.Sources.{IsPartOf};
 ghost use Rattle.p_cover.specs.Covers.{covering, all_sources};
 ghost use Rattle.p_cover.specs.CoverLaws.{IsSource};
 ghost use Rattle.p_cover.specs.Given.{IsBegun, IsDraftOf, Gives, Completes, answer_word, IsPowerTo, IsCommutatorOf, IsCommutatorTo, IsAny};
 
-use crate::source::TailSource;
-use pc_presentation::{Answer, Pcp, PcpBuilder, PcpRefusal, Relation};
+use pc_presentation::{Answer, Definition, Pcp, PcpBuilder, PcpRefusal, Relation};
 use pq_base::NoMemory;
 use std::alloc::Global;
 
@@ -16,11 +16,11 @@ use std::alloc::Global;
 pub(crate) fn presentation_with_tails(
     alloc: Global,
     answer: &Answer,
-    sources: &[TailSource],
+    sources: &[Definition],
 ) -> Result<Pcp, NoMemory>
-    requires part { IsPartOf (map source_of sources.now) (all_sources answer.now) }
+    requires part { IsPartOf (map definition_of sources.now) (all_sources answer.now) }
     requires limit { length sources.now < 2 ^ 16 }
-    ensures { IfOk result (λ q. q ≡ covering answer.now (map source_of sources.now)) }
+    ensures { IfOk result (λ q. q ≡ covering answer.now (map definition_of sources.now)) }
 {
     let _conditions = answer.pcp();
     let mut builder = empty_builder(alloc, answer, sources)?;
@@ -33,10 +33,10 @@ pub(crate) fn presentation_with_tails(
 fn empty_builder(
     alloc: Global,
     answer: &Answer,
-    sources: &[TailSource],
+    sources: &[Definition],
 ) -> Result<PcpBuilder, NoMemory>
     requires { length sources.now < 2 ^ 16 }
-    ensures { IfOk result (IsBegun answer.now (map source_of sources.now) 0) }
+    ensures { IfOk result (IsBegun answer.now (map definition_of sources.now) 0) }
 {
     let pcp = answer.pcp();
     let _rank = pcp.rank();
@@ -59,12 +59,12 @@ fn weights(alloc: Global, pcp: &Pcp) -> Result<Vec<u8>, NoMemory>
 fn give_sources(
     builder: &mut PcpBuilder,
     answer: &Answer,
-    sources: &[TailSource],
+    sources: &[Definition],
 ) -> Result<(), NoMemory>
-    requires sources { All (IsSource answer.now) (map source_of sources.now) }
+    requires sources { All (IsSource answer.now) (map definition_of sources.now) }
     requires limit { length sources.now < 2 ^ 16 }
-    requires begun { IsBegun answer.now (map source_of sources.now) 0 builder.old }
-    ensures { OnOk result (IsBegun answer.now (map source_of sources.now) (length sources.now) builder.new) }
+    requires begun { IsBegun answer.now (map definition_of sources.now) 0 builder.old }
+    ensures { OnOk result (IsBegun answer.now (map definition_of sources.now) (length sources.now) builder.new) }
 {
     for k in 0..sources.len() {
         give_source(builder, answer, sources, k)?;
@@ -76,23 +76,23 @@ fn give_sources(
 fn give_source(
     builder: &mut PcpBuilder,
     answer: &Answer,
-    sources: &[TailSource],
+    sources: &[Definition],
     k: usize,
 ) -> Result<(), NoMemory>
-    requires sources { All (IsSource answer.now) (map source_of sources.now) }
+    requires sources { All (IsSource answer.now) (map definition_of sources.now) }
     requires limit { length sources.now < 2 ^ 16 }
     requires place { k < length sources.now }
-    requires begun { IsBegun answer.now (map source_of sources.now) k builder.old }
-    ensures { OnOk result (IsBegun answer.now (map source_of sources.now) (k + 1) builder.new) }
+    requires begun { IsBegun answer.now (map definition_of sources.now) k builder.old }
+    ensures { OnOk result (IsBegun answer.now (map definition_of sources.now) (k + 1) builder.new) }
 {
     let _conditions = answer.pcp();
     let tail = k as u16 + 1;
     match sources[k] {
-        TailSource::Commutator(j, i) => {
+        Definition::Commutator(j, i) => {
             give(builder, answer, Relation::Commutator(j, i), Some(tail))
         }
-        TailSource::Power(j) => give(builder, answer, Relation::Power(j), Some(tail)),
-        TailSource::Image(_) => Ok(()),
+        Definition::Power(j) => give(builder, answer, Relation::Power(j), Some(tail)),
+        Definition::Image(_) => Ok(()),
     }
 }
 

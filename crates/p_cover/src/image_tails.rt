@@ -3,11 +3,11 @@
 ghost use Rattle.std.specs.Prelude.{◌≡◌, ◌<◌, ◌^◌, IfOk, map, length};
 ghost use Rattle.pq_base.specs.Answer.Definition.{image};
 ghost use Rattle.pq_base.specs.Canonical.{same_definition};
-ghost use Rattle.p_cover.specs.Sources.{source_of, place_in};
+ghost use Rattle.pc_presentation.specs.Definition.{definition_of};
+ghost use Rattle.p_cover.specs.Sources.{place_in};
 ghost use Rattle.p_cover.specs.ImageTails.{tails_of_images};
 
-use crate::source::TailSource;
-use pc_presentation::Answer;
+use pc_presentation::{Answer, Definition};
 use pq_base::NoMemory;
 use std::alloc::Global;
 
@@ -15,10 +15,10 @@ use std::alloc::Global;
 pub(crate) fn image_tails(
     alloc: Global,
     answer: &Answer,
-    sources: &[TailSource],
+    sources: &[Definition],
 ) -> Result<Vec<Option<u16>>, NoMemory>
     requires { length sources.now < 2 ^ 16 }
-    ensures { IfOk result (λ v. v.items ≡ tails_of_images answer.now (map source_of sources.now)) }
+    ensures { IfOk result (λ v. v.items ≡ tails_of_images answer.now (map definition_of sources.now)) }
 {
     let _conditions = answer.pcp();
     let names = answer.names().len() as u16;
@@ -30,9 +30,9 @@ pub(crate) fn image_tails(
 }
 
 /// The place, counted from 1, at which the image of a given generator stands on a list.
-fn place_of_image(sources: &[TailSource], i: u16) -> Option<u16>
+fn place_of_image(sources: &[Definition], i: u16) -> Option<u16>
     requires { length sources.now < 2 ^ 16 }
-    ensures { result ≡ place_in (map source_of sources.now) (image i) }
+    ensures { result ≡ place_in (map definition_of sources.now) (image i) }
 {
     for k in 0..sources.len() {
         if is_image(sources[k], i) {
@@ -42,11 +42,11 @@ fn place_of_image(sources: &[TailSource], i: u16) -> Option<u16>
     None
 }
 
-fn is_image(source: TailSource, i: u16) -> bool
-    ensures { result ≡ same_definition (image i) (source_of source) }
+fn is_image(source: Definition, i: u16) -> bool
+    ensures { result ≡ same_definition (image i) (definition_of source) }
 {
     match source {
-        TailSource::Image(k) => i == k,
+        Definition::Image(k) => i == k,
         _ => false,
     }
 }

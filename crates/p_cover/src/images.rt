@@ -12,8 +12,7 @@ ghost use Rattle.p_cover.specs.Lifted.{lifted_image, IsInverse};
 ghost use Rattle.p_cover.specs.Images.{AreLifted, lifted_images};
 
 use crate::cover::Cover;
-use crate::source::TailSource;
-use pc_presentation::{Collect, Elem, Pcp, Scratch, Syllable, inverse};
+use pc_presentation::{Collect, Definition, Elem, Pcp, Scratch, Syllable, inverse};
 use pq_base::NoMemory;
 use std::alloc::Global;
 use std::marker::Model;
@@ -87,7 +86,7 @@ fn lifted_image(alloc: Global, cover: &Cover, i: u16) -> Result<Elem, NoMemory>
 {
     let mut image = Elem::one(alloc, cover.pcp())?;
     set_exponents(&mut image, cover.answer().image(i));
-    set_tail(&mut image, cover.tail_of(TailSource::Image(i)));
+    set_tail(&mut image, cover.tail_of(Definition::Image(i)));
     Ok(image)
 }
 

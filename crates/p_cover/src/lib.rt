@@ -10,10 +10,8 @@ mod image_tails;
 pub mod images;
 pub mod laws;
 pub mod rowed_laws;
-pub mod source;
 pub mod want;
 
 pub use cover::{Cover, cover_of, full_cover};
 pub use images::Images;
-pub use source::TailSource;
 pub use want::want_order;

@@ -4,12 +4,10 @@ ghost use Rattle.std.specs.Prelude.{◌≡◌, ◌≤◌, ◌++◌, ◌∷◌, [
 ghost use Rattle.pq_base.specs.Answer.{class_of};
 ghost use Rattle.pq_base.specs.Canonical.{same_definition, is_among, commutators_of, all_commutators, all_powers, all_images, is_qualifying};
 ghost use Rattle.pc_presentation.specs.Definition.{definition_of};
-ghost use Rattle.p_cover.specs.Sources.{source_of};
 ghost use Rattle.p_cover.specs.Covers.{all_sources};
 ghost use Rattle.p_cover.specs.CoverLaws.{IsSource};
 ghost use Rattle.p_cover.specs.Wanted.{is_wanted, wanted};
 
-use crate::source::TailSource;
 use pc_presentation::{Answer, Definition};
 use pq_base::NoMemory;
 use std::alloc::Global;
@@ -17,8 +15,8 @@ use std::alloc::Global;
 /// The relations and images of an answer that define no generator, in the order in which they are wanted as definitions of
 /// the next class: at class 0 the images; else the commutators `[a_j,a_i]` with weights c and 1 and the powers of weight c,
 /// c being the class, then the other commutators, the other powers and the images.
-pub fn want_order(alloc: Global, answer: &Answer) -> Result<Vec<TailSource>, NoMemory>
-    ensures { IfOk result (λ sources. map source_of sources.items ≡ all_sources answer.now) }
+pub fn want_order(alloc: Global, answer: &Answer) -> Result<Vec<Definition>, NoMemory>
+    ensures { IfOk result (λ sources. map definition_of sources.items ≡ all_sources answer.now) }
 {
     let _conditions = answer.pcp();
     // at class 0 there are no relations
@@ -33,12 +31,12 @@ pub fn want_order(alloc: Global, answer: &Answer) -> Result<Vec<TailSource>, NoM
 
 /// Puts the commutators that define no generator at the end, those that qualify or the others.
 fn push_commutators(
-    sources: &mut Vec<TailSource>,
+    sources: &mut Vec<Definition>,
     answer: &Answer,
     qualifying: bool,
 ) -> Result<(), NoMemory>
-    ensures { OnOk result (map source_of sources.new.items
-        ≡ map source_of sources.old.items ++ wanted answer.now (class_of answer.now) qualifying (all_commutators answer.now.presentation.rank)) }
+    ensures { OnOk result (map definition_of sources.new.items
+        ≡ map definition_of sources.old.items ++ wanted answer.now (class_of answer.now) qualifying (all_commutators answer.now.presentation.rank)) }
 {
     for k in 0..answer.pcp().rank() {
         push_commutators_of(sources, answer, qualifying, k + 1)?;
@@ -48,22 +46,22 @@ fn push_commutators(
 
 /// Puts such commutators of generator j with those before it at the end.
 fn push_commutators_of(
-    sources: &mut Vec<TailSource>,
+    sources: &mut Vec<Definition>,
     answer: &Answer,
     qualifying: bool,
     j: u16,
 ) -> Result<(), NoMemory>
     requires from_one { 1 ≤ j }
     requires in_range { j ≤ answer.now.presentation.rank }
-    ensures { OnOk result (map source_of sources.new.items
-        ≡ map source_of sources.old.items ++ wanted answer.now (class_of answer.now) qualifying (commutators_of j)) }
+    ensures { OnOk result (map definition_of sources.new.items
+        ≡ map definition_of sources.old.items ++ wanted answer.now (class_of answer.now) qualifying (commutators_of j)) }
 {
     for k in 0..j - 1 {
         push_wanted(
             sources,
             answer,
             qualifying,
-            TailSource::Commutator(j, k + 1),
+            Definition::Commutator(j, k + 1),
         )?;
     }
     Ok(())
@@ -71,42 +69,42 @@ fn push_commutators_of(
 
 /// Puts the powers that define no generator at the end of a list of sources, those that qualify or the others.
 pub fn push_powers(
-    sources: &mut Vec<TailSource>,
+    sources: &mut Vec<Definition>,
     answer: &Answer,
     qualifying: bool,
 ) -> Result<(), NoMemory>
-    ensures { OnOk result (map source_of sources.new.items
-        ≡ map source_of sources.old.items ++ wanted answer.now (class_of answer.now) qualifying (all_powers answer.now.presentation.rank)) }
+    ensures { OnOk result (map definition_of sources.new.items
+        ≡ map definition_of sources.old.items ++ wanted answer.now (class_of answer.now) qualifying (all_powers answer.now.presentation.rank)) }
 {
     for k in 0..answer.pcp().rank() {
-        push_wanted(sources, answer, qualifying, TailSource::Power(k + 1))?;
+        push_wanted(sources, answer, qualifying, Definition::Power(k + 1))?;
     }
     Ok(())
 }
 
 /// Puts the images that define no generator at the end of a list of sources.
-pub fn push_images(sources: &mut Vec<TailSource>, answer: &Answer) -> Result<(), NoMemory>
-    ensures { OnOk result (map source_of sources.new.items
-        ≡ map source_of sources.old.items ++ wanted answer.now (class_of answer.now) false (all_images (length answer.now.names))) }
+pub fn push_images(sources: &mut Vec<Definition>, answer: &Answer) -> Result<(), NoMemory>
+    ensures { OnOk result (map definition_of sources.new.items
+        ≡ map definition_of sources.old.items ++ wanted answer.now (class_of answer.now) false (all_images (length answer.now.names))) }
 {
     let _conditions = answer.pcp();
     let names = answer.names().len() as u16;
     for k in 0..names {
-        push_wanted(sources, answer, false, TailSource::Image(k + 1))?;
+        push_wanted(sources, answer, false, Definition::Image(k + 1))?;
     }
     Ok(())
 }
 
 /// Puts a source at the end of a list of sources, where it defines no generator, and qualifies or not, as is asked.
 pub fn push_wanted(
-    sources: &mut Vec<TailSource>,
+    sources: &mut Vec<Definition>,
     answer: &Answer,
     qualifying: bool,
-    source: TailSource,
+    source: Definition,
 ) -> Result<(), NoMemory>
-    requires { IsSource answer.now (source_of source) }
-    ensures { OnOk result (map source_of sources.new.items
-        ≡ map source_of sources.old.items ++ wanted answer.now (class_of answer.now) qualifying (source_of source ∷ [])) }
+    requires { IsSource answer.now (definition_of source) }
+    ensures { OnOk result (map definition_of sources.new.items
+        ≡ map definition_of sources.old.items ++ wanted answer.now (class_of answer.now) qualifying (definition_of source ∷ [])) }
 {
     if is_wanted(answer, qualifying, source) {
         sources.push(source)?;
@@ -115,31 +113,31 @@ pub fn push_wanted(
 }
 
 /// Whether a source defines no generator, and qualifies or not.
-fn is_wanted(answer: &Answer, qualifying: bool, source: TailSource) -> bool
-    requires { IsSource answer.now (source_of source) }
-    ensures { result ≡ is_wanted answer.now (class_of answer.now) qualifying (source_of source) }
+fn is_wanted(answer: &Answer, qualifying: bool, source: Definition) -> bool
+    requires { IsSource answer.now (definition_of source) }
+    ensures { result ≡ is_wanted answer.now (class_of answer.now) qualifying (definition_of source) }
 {
     is_qualifying(answer, source) == qualifying && !is_definition(answer, source)
 }
 
 /// Whether this is a commutator of a generator of the last weight with one of weight 1, or the power of one of the last
 /// weight.
-fn is_qualifying(answer: &Answer, source: TailSource) -> bool
-    requires { IsSource answer.now (source_of source) }
-    ensures { result ≡ is_qualifying answer.now (class_of answer.now) (source_of source) }
+fn is_qualifying(answer: &Answer, source: Definition) -> bool
+    requires { IsSource answer.now (definition_of source) }
+    ensures { result ≡ is_qualifying answer.now (class_of answer.now) (definition_of source) }
 {
     let pcp = answer.pcp();
     let class = answer.class();
     match source {
-        TailSource::Commutator(j, i) => pcp.weight(j) == class && pcp.weight(i) == 1,
-        TailSource::Power(j) => pcp.weight(j) == class,
-        TailSource::Image(_) => false,
+        Definition::Commutator(j, i) => pcp.weight(j) == class && pcp.weight(i) == 1,
+        Definition::Power(j) => pcp.weight(j) == class,
+        Definition::Image(_) => false,
     }
 }
 
 /// Whether a generator is defined by this.
-fn is_definition(answer: &Answer, source: TailSource) -> bool
-    ensures { result ≡ is_among (source_of source) answer.now.definitions }
+fn is_definition(answer: &Answer, source: Definition) -> bool
+    ensures { result ≡ is_among (definition_of source) answer.now.definitions }
 {
     for k in 0..answer.pcp().rank() {
         if is_same(source, answer.definition(k + 1)) {
@@ -149,13 +147,14 @@ fn is_definition(answer: &Answer, source: TailSource) -> bool
     false
 }
 
-fn is_same(source: TailSource, definition: Definition) -> bool
-    ensures { result ≡ same_definition (source_of source) (definition_of definition) }
+/// Whether two definitions are one.
+fn is_same(source: Definition, definition: Definition) -> bool
+    ensures { result ≡ same_definition (definition_of source) (definition_of definition) }
 {
     match (source, definition) {
-        (TailSource::Commutator(j, i), Definition::Commutator(l, k)) => j == l && i == k,
-        (TailSource::Power(j), Definition::Power(k)) => j == k,
-        (TailSource::Image(i), Definition::Image(k)) => i == k,
+        (Definition::Commutator(j, i), Definition::Commutator(l, k)) => j == l && i == k,
+        (Definition::Power(j), Definition::Power(k)) => j == k,
+        (Definition::Image(i), Definition::Image(k)) => i == k,
         _ => false,
     }
 }

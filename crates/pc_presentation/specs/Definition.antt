@@ -1,4 +1,4 @@
--- Definitions of generators as the program has them, and as answers have them.
+-- Images and relations, as definitions of generators and as sources of tails: as the program has them, and as answers have them.
 use Rattle.pc_presentation.specs.declared.definition.Definition.{Definition}
 use Rattle.pc_presentation.specs.declared.definition.Definition.TheVariants.{Image, Commutator, Power}
 use Rattle.pq_base.specs.Answer.{Definition as Source}

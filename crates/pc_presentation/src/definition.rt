@@ -1,7 +1,7 @@
-//! Where the generators of an answer come from.
+//! Where the generators of an answer come from, and the tails of its covers.
 
-/// The definition of a generator: an image or the right side of a relation that is this generator alone. Numbers count from
-/// 1.
+/// An image or a relation. As the definition of a generator it is one whose right side is that generator alone; as the source
+/// of a tail, one whose right side has that tail behind it. Numbers count from 1.
 #[derive(Clone, Copy, Debug, PartialEq, Eq)]
 pub enum Definition {
     /// The image of a given generator.

@@ -63,11 +63,7 @@ impl From<TowerRefusal> for Refusal {
 
     fn from(refused: TowerRefusal) -> Refusal {
         match refused {
-            TowerRefusal::TooLarge { part, class, rank } => Refusal::TooLarge {
-                run: part,
-                class,
-                rank,
-            },
+            TowerRefusal::TooLarge { run, class, rank } => Refusal::TooLarge { run, class, rank },
             TowerRefusal::NoMemory => Refusal::NoMemory,
         }
     }

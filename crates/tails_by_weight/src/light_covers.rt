@@ -1,13 +1,13 @@
 //! Covers with light tails alone.
 
 ghost use Rattle.std.specs.Prelude.{◌≡◌, IfOk, IsTrue};
-ghost use Rattle.p_cover.specs.Sources.{source_of};
+ghost use Rattle.pc_presentation.specs.Definition.{definition_of};
 ghost use Rattle.p_cover.specs.CoverLaws.{IsSource};
 ghost use Rattle.tails_by_weight.specs.LightCovers.{is_light, light_cover_of};
 
 use crate::sources::light_sources;
-use p_cover::{Cover, TailSource, cover_of};
-use pc_presentation::Answer;
+use p_cover::{Cover, cover_of};
+use pc_presentation::{Answer, Definition};
 use pq_base::NoMemory;
 use std::alloc::Global;
 
@@ -23,15 +23,15 @@ pub fn light_cover(alloc: Global, answer: &Answer) -> Result<Cover, NoMemory>
 
 /// Whether a relation or an image has room for a generator of the next class. It is false exactly for a commutator of generators
 /// whose weights have a sum above the class and one. It takes no memory.
-pub fn carries(answer: &Answer, t: TailSource) -> bool
-    requires { IsSource answer.now (source_of t) }
-    ensures { result ≡ is_light answer.now (source_of t) }
+pub fn carries(answer: &Answer, t: Definition) -> bool
+    requires { IsSource answer.now (definition_of t) }
+    ensures { result ≡ is_light answer.now (definition_of t) }
 {
     let pcp = answer.pcp();
     match t {
-        TailSource::Commutator(j, i) => {
+        Definition::Commutator(j, i) => {
             pcp.weight(j) as u16 + pcp.weight(i) as u16 <= answer.class() as u16 + 1
         }
-        TailSource::Power(_) | TailSource::Image(_) => true,
+        Definition::Power(_) | Definition::Image(_) => true,
     }
 }

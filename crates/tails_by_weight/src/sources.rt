@@ -2,22 +2,21 @@
 
 ghost use Rattle.std.specs.Prelude.{◌≡◌, ◌≤◌, ◌++◌, IfOk, OnOk, map};
 ghost use Rattle.pq_base.specs.Answer.{class_of};
-ghost use Rattle.p_cover.specs.Sources.{source_of};
+ghost use Rattle.pc_presentation.specs.Definition.{definition_of};
 ghost use Rattle.p_cover.specs.Wanted.{wanted};
 ghost use Rattle.tails_by_weight.specs.LightCovers.{light_sources};
 ghost use Rattle.tails_by_weight.specs.LightParts.{light_commutators_of, light_commutators};
 
 use crate::room::count_with_room;
-use p_cover::TailSource;
 use p_cover::want::{push_images, push_powers, push_wanted};
-use pc_presentation::Answer;
+use pc_presentation::{Answer, Definition};
 use pq_base::NoMemory;
 use std::alloc::Global;
 
 /// The entries of the want order that have room for a generator of the next class, in its order: at class 0 the images; else the
 /// commutators that qualify and the powers that do, then the other light commutators, the other powers and the images.
-pub(crate) fn light_sources(alloc: Global, answer: &Answer) -> Result<Vec<TailSource>, NoMemory>
-    ensures { IfOk result (λ sources. map source_of sources.items ≡ light_sources answer.now) }
+pub(crate) fn light_sources(alloc: Global, answer: &Answer) -> Result<Vec<Definition>, NoMemory>
+    ensures { IfOk result (λ sources. map definition_of sources.items ≡ light_sources answer.now) }
 {
     let _conditions = answer.pcp();
     // at class 0 there are no relations
@@ -32,12 +31,12 @@ pub(crate) fn light_sources(alloc: Global, answer: &Answer) -> Result<Vec<TailSo
 
 /// Puts the light commutators that define no generator at the end, those that qualify or the others.
 fn push_commutators(
-    sources: &mut Vec<TailSource>,
+    sources: &mut Vec<Definition>,
     answer: &Answer,
     qualifying: bool,
 ) -> Result<(), NoMemory>
-    ensures { OnOk result (map source_of sources.new.items
-        ≡ map source_of sources.old.items
+    ensures { OnOk result (map definition_of sources.new.items
+        ≡ map definition_of sources.old.items
         ++ wanted answer.now (class_of answer.now) qualifying (light_commutators answer.now answer.now.presentation.rank)) }
 {
     for k in 0..answer.pcp().rank() {
@@ -48,15 +47,15 @@ fn push_commutators(
 
 /// Puts such commutators of generator j with those before it at the end.
 fn push_commutators_of(
-    sources: &mut Vec<TailSource>,
+    sources: &mut Vec<Definition>,
     answer: &Answer,
     qualifying: bool,
     j: u16,
 ) -> Result<(), NoMemory>
     requires from_one { 1 ≤ j }
     requires in_range { j ≤ answer.now.presentation.rank }
-    ensures { OnOk result (map source_of sources.new.items
-        ≡ map source_of sources.old.items ++ wanted answer.now (class_of answer.now) qualifying (light_commutators_of answer.now j)) }
+    ensures { OnOk result (map definition_of sources.new.items
+        ≡ map definition_of sources.old.items ++ wanted answer.now (class_of answer.now) qualifying (light_commutators_of answer.now j)) }
 {
     let weight = answer.pcp().weight(j) as u16;
     for k in 0..count_with_room(answer, weight, j) {
@@ -64,7 +63,7 @@ fn push_commutators_of(
             sources,
             answer,
             qualifying,
-            TailSource::Commutator(j, k + 1),
+            Definition::Commutator(j, k + 1),
         )?;
     }
     Ok(())

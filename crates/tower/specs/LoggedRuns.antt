@@ -30,7 +30,7 @@ pub record HoldsRun (full : Bool) (L : LPresentation) (meaning : RowedPresentati
 -- n steps were done before a run to class c was refused, and lead to this answer: all to the class that is too large, whose answer
 -- has the rank named; or those of fewer classes, where memory was wanting
 abbrev pub IsDoneBefore : ℕ → TowerRefusal → ℕ → Answer → Type 0
-IsDoneBefore c (TooLarge part k rank) n A = (n ≡ k) × (A.presentation.rank ≡ rank)
+IsDoneBefore c (TooLarge run k rank) n A = (n ≡ k) × (A.presentation.rank ≡ rank)
 IsDoneBefore c NoMemory n A = n < c
 
 -- the steps are kept that were done before a run to class c was refused

@@ -9,5 +9,5 @@ use Rattle.tower.specs.Answers.{IsTooLarge}
 
 -- a refusal by a run to class c has its cause; a want of memory may come at any time
 abbrev pub IsRefusalOf : LPresentation → ℕ → ℕ → Run → TowerRefusal → Type 0
-IsRefusalOf L p c run (TooLarge part k rank) = (part ≡ run) × IsTooLarge L p c k rank
+IsRefusalOf L p c run (TooLarge other k rank) = (other ≡ run) × IsTooLarge L p c k rank
 IsRefusalOf L p c run NoMemory = ⊤

@@ -12,7 +12,7 @@ pub enum TowerRefusal {
     /// The largest quotient of a class has a rank above `RANK`.
     TooLarge {
         /// The run that came to it.
-        part: Run,
+        run: Run,
         /// The first such class.
         class: u8,
         /// The rank of this quotient.

@@ -58,7 +58,7 @@ pub fn finite<C: Collect + Drop, L: Log>(
             Step::Same => return Ok(answer),
             Step::TooLarge { rank } => {
                 return Err(TowerRefusal::TooLarge {
-                    part: Run::Whole,
+                    run: Run::Whole,
                     class: k + 1,
                     rank,
                 })

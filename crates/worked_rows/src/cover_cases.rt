@@ -8,7 +8,7 @@
 ghost use Rattle.std.specs.Prelude.{IsTrue, length};
 ghost use Rattle.pq_base.specs.SignedWord.{HasLetters};
 ghost use Rattle.p_cover.specs.CoverLaws.{IsSource};
-ghost use Rattle.p_cover.specs.Sources.{source_of};
+ghost use Rattle.pc_presentation.specs.Definition.{definition_of};
 
 use crate::answer_cases::read_short;
 use crate::element_calls::show_element;
@@ -20,8 +20,8 @@ use consistency::{Tests, row};
 use epimorphism::relator_row;
 use fp_rows::Row;
 use free_words::Word;
-use p_cover::{Cover, Images, TailSource, cover_of, full_cover, want_order};
-use pc_presentation::{Answer, Overlap, Relation};
+use p_cover::{Cover, Images, cover_of, full_cover, want_order};
+use pc_presentation::{Answer, Definition, Overlap, Relation};
 use std::alloc::Global;
 use tails_by_weight::{carries, light_cover, light_tests};
 
@@ -92,26 +92,26 @@ fn cover_of_first(alloc: Global, answer: &Answer, count: usize) -> Result<Cover>
 }
 
 /// The source that a text is.
-fn source_of(text: &str) -> Result<TailSource> {
+fn source_of(text: &str) -> Result<Definition> {
     if let Some(number) = text.strip_prefix("image ") {
-        return Ok(TailSource::Image(number.parse::<u16>()?));
+        return Ok(Definition::Image(number.parse::<u16>()?));
     }
     match relation_of(text)? {
-        Relation::Commutator(j, i) => Ok(TailSource::Commutator(j, i)),
-        Relation::Power(j) => Ok(TailSource::Power(j)),
+        Relation::Commutator(j, i) => Ok(Definition::Commutator(j, i)),
+        Relation::Power(j) => Ok(Definition::Power(j)),
     }
 }
 
-fn show_source(out: &mut String, source: TailSource) -> Result<()> {
+fn show_source(out: &mut String, source: Definition) -> Result<()> {
     match source {
-        TailSource::Commutator(j, i) => write!(out, " [a{j},a{i}]")?,
-        TailSource::Power(j) => write!(out, " a{j}^p")?,
-        TailSource::Image(i) => write!(out, " image {i}")?,
+        Definition::Commutator(j, i) => write!(out, " [a{j},a{i}]")?,
+        Definition::Power(j) => write!(out, " a{j}^p")?,
+        Definition::Image(i) => write!(out, " image {i}")?,
     }
     Ok(())
 }
 
-fn show_sources(out: &mut String, sources: &[TailSource]) -> Result<()> {
+fn show_sources(out: &mut String, sources: &[Definition]) -> Result<()> {
     out.push_str("   ")?;
     for source in sources {
         show_source(out, *source)?;
@@ -146,7 +146,7 @@ fn show_images(alloc: Global, cover: &Cover, out: &mut String) -> Result<()> {
     Ok(())
 }
 
-fn show_tail(cover: &Cover, source: TailSource, out: &mut String) -> Result<()> {
+fn show_tail(cover: &Cover, source: Definition, out: &mut String) -> Result<()> {
     match cover.tail_of(source) {
         Some(tail) => writeln!(out, "    tail {tail}")?,
         None => writeln!(out, "    none")?,
@@ -177,7 +177,7 @@ fn show_tests(alloc: Global, answer: &Answer, out: &mut String) -> Result<()> {
     Ok(())
 }
 
-fn show_carries(answer: &Answer, source: TailSource, out: &mut String) -> Result<()> {
+fn show_carries(answer: &Answer, source: Definition, out: &mut String) -> Result<()> {
     if !is_source(answer, source) {
         bail!("no relation or image of the answer");
     }
@@ -187,14 +187,14 @@ fn show_carries(answer: &Answer, source: TailSource, out: &mut String) -> Result
 }
 
 /// Whether this is a relation or an image of an answer.
-fn is_source(answer: &Answer, source: TailSource) -> bool
-    ensures { IsTrue result → IsSource answer.now (source_of source) }
+fn is_source(answer: &Answer, source: Definition) -> bool
+    ensures { IsTrue result → IsSource answer.now (definition_of source) }
 {
     let rank = answer.pcp().rank();
     match source {
-        TailSource::Commutator(j, i) => 1 <= i && i < j && j <= rank,
-        TailSource::Power(j) => 1 <= j && j <= rank,
-        TailSource::Image(i) => 1 <= i && i as usize <= answer.names().len(),
+        Definition::Commutator(j, i) => 1 <= i && i < j && j <= rank,
+        Definition::Power(j) => 1 <= j && j <= rank,
+        Definition::Image(i) => 1 <= i && i as usize <= answer.names().len(),
     }
 }
 

@@ -6,7 +6,8 @@ ghost use Rattle.std.specs.Prelude.{◌≡◌, ◌≤◌, ◌-◌, get_or, lengt
 ghost use Rattle.pq_base.specs.Answer.{class_of};
 ghost use Rattle.pq_base.specs.Answer.Definition.{image};
 ghost use Rattle.fp_echelon.specs.Reduced.{IsPivot};
-ghost use Rattle.p_cover.specs.Sources.{source_of, relation_source};
+ghost use Rattle.pc_presentation.specs.Definition.{definition_of};
+ghost use Rattle.p_cover.specs.Sources.{relation_source};
 ghost use Rattle.p_cover.specs.Covers.{all_sources};
 ghost use Rattle.cover_quotient.specs.Defining.{HasEmptySide, MayBeKept, KeptMayBeKept};
 
@@ -18,8 +19,8 @@ use case_lists::text::{Text, numbers};
 use case_lists::{Cases, show_answer};
 use class_step::{Step, eliminate};
 use fp_echelon::Basis;
-use p_cover::{Cover, TailSource, full_cover};
-use pc_presentation::{Answer, Relation};
+use p_cover::{Cover, full_cover};
+use pc_presentation::{Answer, Definition, Relation};
 use pq_base::NoMemory;
 use pq_base::limits::CLASS;
 use std::alloc::Global;
@@ -122,14 +123,14 @@ fn is_pivot_or_may_be_kept(cover: &Cover, basis: &Basis, tail: u16) -> bool
 }
 
 /// Whether a tail may be kept: at class 0 that of an image, later that of a relation with the empty word.
-fn may_be_kept(answer: &Answer, source: TailSource) -> bool
-    ensures { IsTrue result → MayBeKept answer.now (class_of answer.now) (source_of source) }
+fn may_be_kept(answer: &Answer, source: Definition) -> bool
+    ensures { IsTrue result → MayBeKept answer.now (class_of answer.now) (definition_of source) }
 {
     let is_first = answer.class() == 0;
     match source {
-        TailSource::Image(_) => is_first,
-        TailSource::Power(j) => !is_first && has_empty_word(answer, Relation::Power(j)),
-        TailSource::Commutator(j, i) => {
+        Definition::Image(_) => is_first,
+        Definition::Power(j) => !is_first && has_empty_word(answer, Relation::Power(j)),
+        Definition::Commutator(j, i) => {
             !is_first && has_empty_word(answer, Relation::Commutator(j, i))
         }
     }

@@ -62,8 +62,8 @@ pub(crate) fn show_counts(out: &mut String, kind: &str, log: &RowCounts) -> Resu
 /// Writes the rank that is too large.
 pub(crate) fn show_refusal(refusal: TowerRefusal, out: &mut String) -> Result<()> {
     match refusal {
-        TowerRefusal::TooLarge { part, class, rank } => {
-            let part = match part {
+        TowerRefusal::TooLarge { run, class, rank } => {
+            let part = match run {
                 Run::Iterated => "iterated part",
                 Run::Whole => "whole",
             };

@@ -4,8 +4,8 @@ use Rattle.pq_base.specs.Answer.Definition.{image}
 use Rattle.pq_base.specs.EntryWords.{IsSourceOf}
 use Rattle.pc_presentation.specs.declared.relation.Relation.TheVariants.{Power, Commutator}
 use Rattle.pc_presentation.specs.Pcp.{TailedPresentation}
-use Rattle.p_cover.specs.declared.source.TailSource.{TailSource}
-use Rattle.p_cover.specs.Sources.{source_of}
+use Rattle.pc_presentation.specs.declared.definition.Definition.{Definition}
+use Rattle.pc_presentation.specs.Definition.{definition_of}
 use Rattle.p_cover.proofs.SourceNumbers.{source-by_name}
 use Rattle.endo_lift.proofs.RightSides.{IsRead, relation-read, image-read}
 use Rattle.endo_lift.proofs.entry.right_side.Goals as goal
@@ -13,27 +13,27 @@ use Rattle.endo_lift.proofs.entry.right_side.Goals as goal
 pub image-requires-clause-in_range : goal.image-requires-clause-in_range
 image-requires-clause-in_range c =
     let A = c.args.cover.now.answer in
-    let source : IsSourceOf A (image c.in-Image.i) = subst (λ (x : TailSource). IsSourceOf A (source_of x)) c.in-Image.is c.requires in
+    let source : IsSourceOf A (image c.in-Image.i) = subst (λ (x : Definition). IsSourceOf A (definition_of x)) c.in-Image.is c.requires in
     let numbers = source-by_name A c.pcp-pcp.ensures.cover.answer (image c.in-Image.i) source in
     subst (λ (B : Answer). c.in-Image.i ≤ length B.names) (sym c.answer.ensures) numbers.1
 
 -- what is read in each case
-commutator_read : (c : goal.After-word) → IsRead c.args.cover.now.answer (source_of c.args.source) c.word.result.now
+commutator_read : (c : goal.After-word) → IsRead c.args.cover.now.answer (definition_of c.args.source) c.word.result.now
 commutator_read c =
     relation-read c.args.cover.now.answer c.pcp-pcp.ensures.cover.answer (Commutator c.in-Commutator.j c.in-Commutator.i)
-    (source_of c.args.source) c.pcp-pcp.result.now.presentation c.word.result.now (ap source_of (sym c.in-Commutator.is)) c.requires
+    (definition_of c.args.source) c.pcp-pcp.result.now.presentation c.word.result.now (ap definition_of (sym c.in-Commutator.is)) c.requires
     (ap (λ (T : TailedPresentation). T.presentation) c.pcp-pcp.ensures.presentation) c.word.ensures
 
-power_read : (c : goal.After-word-in-Power) → IsRead c.args.cover.now.answer (source_of c.args.source) c.word-in-Power.result.now
+power_read : (c : goal.After-word-in-Power) → IsRead c.args.cover.now.answer (definition_of c.args.source) c.word-in-Power.result.now
 power_read c =
     relation-read c.args.cover.now.answer c.pcp-pcp.ensures.cover.answer (Power c.in-Power.j)
-    (source_of c.args.source) c.pcp-pcp.result.now.presentation c.word-in-Power.result.now (ap source_of (sym c.in-Power.is)) c.requires
+    (definition_of c.args.source) c.pcp-pcp.result.now.presentation c.word-in-Power.result.now (ap definition_of (sym c.in-Power.is)) c.requires
     (ap (λ (T : TailedPresentation). T.presentation) c.pcp-pcp.ensures.presentation) c.word-in-Power.ensures
 
-image_read : (c : goal.After-image) → IsRead c.args.cover.now.answer (source_of c.args.source) c.image.result.now
+image_read : (c : goal.After-image) → IsRead c.args.cover.now.answer (definition_of c.args.source) c.image.result.now
 image_read c =
-    image-read c.args.cover.now.answer c.pcp-pcp.ensures.cover.answer c.in-Image.i (source_of c.args.source) c.answer.result.now.images
-    c.image.result.now (ap source_of (sym c.in-Image.is)) c.requires (ap (λ (B : Answer). B.images) c.answer.ensures) c.image.ensures
+    image-read c.args.cover.now.answer c.pcp-pcp.ensures.cover.answer c.in-Image.i (definition_of c.args.source) c.answer.result.now.images
+    c.image.result.now (ap definition_of (sym c.in-Image.is)) c.requires (ap (λ (B : Answer). B.images) c.answer.ensures) c.image.ensures
 
 pub returns-in-Commutator-clause-side : goal.returns-in-Commutator-clause-side
 returns-in-Commutator-clause-side c = (commutator_read c).side

@@ -4,7 +4,7 @@ use Rattle.pq_base.specs.EntryWords.{IsSourceOf}
 use Rattle.fp_rows.specs.Row.{PrimeRow}
 use Rattle.fp_echelon.specs.Matrix.{PrimeMatrix}
 use Rattle.pc_presentation.specs.Pcp.{TailedPresentation}
-use Rattle.p_cover.specs.Sources.{source_of}
+use Rattle.pc_presentation.specs.Definition.{definition_of}
 use Rattle.endo_lift.proofs.ValueRows.{source-at, rows-more, set-before, matrix-set}
 use Rattle.endo_lift.proofs.image_rows.set_rows.Goals as goal
 
@@ -36,11 +36,11 @@ loop-t-preserved g c =
     let row : x ≡ e.state.row = ap (λ (r : PrimeRow). r.entries) c.tail.ensures in
     let next : c.set_row.new.self ≡ record { prime = m.prime; width = m.width; rows = set m.rows t x } =
     set-before m c.set_row.new.self t x c.set_row.ensures in
-    let source : source_of c.source_of-source.result ≡ get_or C.sources t (image 0) =
+    let source : definition_of c.source_of-source.result ≡ get_or C.sources t (image 0) =
     c.source_of-source.ensures ∙ ap (λ (n : ℕ). get_or C.sources n (image 0)) place in (
       c.entry_value.ensures.scratch,
       c.entry_value.ensures.room,
       matrix-set C m c.set_row.new.self t e x inv.2 c.entry_value.ensures.value.element row next,
-      rows-more C c.args.endo.now m.rows c.set_row.new.self.rows t x (source_of c.source_of-source.result) e inside inv.3
+      rows-more C c.args.endo.now m.rows c.set_row.new.self.rows t x (definition_of c.source_of-source.result) e inside inv.3
           (ap (λ (n : PrimeMatrix). n.rows) next) row source c.entry_value.ensures.value,
     )

@@ -2,8 +2,8 @@ use Rattle.std.proofs.Common.{◌≤◌, length, ap, arith}
 use Rattle.std.proofs.lemmas.List.{length-map}
 use Rattle.pq_base.specs.Limits.{max_rank}
 use Rattle.pq_base.specs.Presentation.{Presentation}
-use Rattle.p_cover.specs.declared.source.TailSource.{TailSource}
-use Rattle.p_cover.specs.Sources.{source_of}
+use Rattle.pc_presentation.specs.declared.definition.Definition.{Definition}
+use Rattle.pc_presentation.specs.Definition.{definition_of}
 use Rattle.p_cover.proofs.WantMembers.{few_in_part}
 use Rattle.p_cover.proofs.cover.cover_with.Goals as goal
 
@@ -13,5 +13,5 @@ presentation_with_tails-requires-clause-limit c =
     let rank = ap (λ (P : Presentation). P.rank) c.pcp.ensures.presentation in
     let limit : A.presentation.rank ≤ max_rank = omega (arith, c.rank-rank.ensures.presentation.rank_limit) in
     let few = few_in_part A limit c.pcp.ensures.answer.name_limit c.requires in
-    let long = ap (length {A = TailSource}) c.deref.ensures.value in
-    omega (arith, length-map c.args.sources.items source_of)
+    let long = ap (length {A = Definition}) c.deref.ensures.value in
+    omega (arith, length-map c.args.sources.items definition_of)

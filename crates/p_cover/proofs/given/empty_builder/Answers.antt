@@ -5,7 +5,7 @@ use Rattle.pq_base.specs.Prime.{prime_value}
 use Rattle.pq_base.specs.Presentation.{Presentation}
 use Rattle.pq_base.specs.Answer.{Definition as Source}
 use Rattle.pq_base.proofs.PrimeLaws.{prime_value-offered, offered-two}
-use Rattle.p_cover.specs.Sources.{source_of}
+use Rattle.pc_presentation.specs.Definition.{definition_of}
 use Rattle.p_cover.specs.Given.{IsBegun}
 use Rattle.p_cover.proofs.GivenSteps.{begun-empty}
 use Rattle.p_cover.proofs.given.empty_builder.Goals as goal
@@ -20,7 +20,7 @@ new-requires c =
 pub returns : goal.returns
 returns c =
     let A = c.args.answer.now in
-    let ds : List Source = map source_of c.args.sources.now in
+    let ds : List Source = map definition_of c.args.sources.now in
     let p : ℕ = prime_value c.prime.result in
     IfOk-weaker c.new.result _ (IsBegun A ds 0)
     (λ b e. subst (IsBegun A ds 0) (sym e)
@@ -28,5 +28,5 @@ returns c =
     (offered-two p (prime_value-offered c.prime.result))
     (c.prime.ensures ∙ ap (λ (P : Presentation). P.prime) c.pcp-pcp.ensures.presentation)
     (c.deref.ensures.value ∙ c.in_ok-weights.ensures ∙ c.pcp-pcp.ensures.weights)
-    (sym (length-map c.args.sources.now source_of)) c.pcp-pcp.ensures.answer.weight_count))
+    (sym (length-map c.args.sources.now definition_of)) c.pcp-pcp.ensures.answer.weight_count))
     c.new.ensures

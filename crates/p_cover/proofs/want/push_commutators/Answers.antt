@@ -1,11 +1,11 @@
 use Rattle.std.proofs.Common.{map}
 use Rattle.pq_base.specs.Answer.{class_of}
-use Rattle.p_cover.specs.Sources.{source_of}
+use Rattle.pc_presentation.specs.Definition.{definition_of}
 use Rattle.p_cover.proofs.WantSteps.{wanted-more_rows}
 use Rattle.p_cover.proofs.want.push_commutators.Goals as goal
 
 pub loop-k-preserved : goal.loop-k-preserved
 loop-k-preserved c =
     wanted-more_rows c.args.answer.now (class_of c.args.answer.now) c.args.qualifying c.loop-k.k
-    (map source_of c.args.sources.now.items) (map source_of c.loop-k.sources.items) (map source_of c.push_commutators_of.new.sources.items)
+    (map definition_of c.args.sources.now.items) (map definition_of c.loop-k.sources.items) (map definition_of c.push_commutators_of.new.sources.items)
     c.loop-k.invariant c.in_ok-push_commutators_of.ensures

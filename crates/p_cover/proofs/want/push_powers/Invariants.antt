@@ -1,11 +1,11 @@
 use Rattle.std.proofs.Common.{◌≡◌, ◌++◌, map}
 use Rattle.pq_base.specs.Answer.{class_of}
 use Rattle.pq_base.specs.Canonical.{all_powers}
-use Rattle.p_cover.specs.Sources.{source_of}
+use Rattle.pc_presentation.specs.Definition.{definition_of}
 use Rattle.p_cover.specs.Wanted.{wanted}
 use Rattle.p_cover.proofs.want.push_powers.Given as goal
 
 abbrev pub invariant-loop-k : goal.invariant-loop-k
 invariant-loop-k l =
-    map source_of l.sources.items
-    ≡ map source_of l.initial.sources.items ++ wanted l.answer (class_of l.answer) l.qualifying (all_powers l.k)
+    map definition_of l.sources.items
+    ≡ map definition_of l.initial.sources.items ++ wanted l.answer (class_of l.answer) l.qualifying (all_powers l.k)

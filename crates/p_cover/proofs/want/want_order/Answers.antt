@@ -1,13 +1,13 @@
 use Rattle.std.proofs.Common.{map, ap}
-use Rattle.p_cover.specs.Sources.{source_of}
+use Rattle.pc_presentation.specs.Definition.{definition_of}
 use Rattle.p_cover.proofs.WantSteps.{all_parts}
 use Rattle.p_cover.proofs.want.want_order.Goals as goal
 
 pub returns : goal.returns
 returns c =
-    all_parts c.args.answer.now c.pcp-conditions.ensures.answer (map source_of c.new-sources.result.items)
-    (map source_of c.push_commutators.new.sources.items) (map source_of c.push_powers.new.sources.items)
-    (map source_of c.push_commutators-2.new.sources.items) (map source_of c.push_powers-2.new.sources.items)
-    (map source_of c.push_images.new.sources.items) (ap (map source_of) c.new-sources.ensures.items)
+    all_parts c.args.answer.now c.pcp-conditions.ensures.answer (map definition_of c.new-sources.result.items)
+    (map definition_of c.push_commutators.new.sources.items) (map definition_of c.push_powers.new.sources.items)
+    (map definition_of c.push_commutators-2.new.sources.items) (map definition_of c.push_powers-2.new.sources.items)
+    (map definition_of c.push_images.new.sources.items) (ap (map definition_of) c.new-sources.ensures.items)
     c.in_ok-push_commutators.ensures c.in_ok-push_powers.ensures c.in_ok-push_commutators-2.ensures c.in_ok-push_powers-2.ensures
     c.in_ok-push_images.ensures

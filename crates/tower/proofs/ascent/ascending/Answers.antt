@@ -23,7 +23,7 @@ loop-k-init g c =
           c.names.ensures.limits.some_generator c.names.ensures.limits.generators c.names.ensures.presentation.distinct c.in_ok-answer.ensures),
       (λ steps h. ap length (c.requires.log steps h)),
       (λ steps. (λ h. h, λ h. h)),
-      (λ kept. holds-none g.L.Log.FULL (part c.args.pres.now iterated_part) g.C.Collect.meaning (prime_value c.args.prime) (g.L.Log.keeps c.args.log.now c.args.part)
+      (λ kept. holds-none g.L.Log.FULL (part c.args.pres.now iterated_part) g.C.Collect.meaning (prime_value c.args.prime) (g.L.Log.keeps c.args.log.now c.args.run)
           c.names.result.now c.in_ok-answer.answer kept c.names.ensures.names c.in_ok-answer.ensures),
     )
 
@@ -37,19 +37,19 @@ pub returns-in_err-answer-clause-refused : goal.returns-in_err-answer-clause-ref
 returns-in_err-answer-clause-refused g c kept =
     let p = err_from_is_err_and c.from_residual.result c.from_residual.ensures.1 in
     rw (p.1, p.2) (holds-wanting_first g.L.Log.FULL (part c.args.pres.now iterated_part) g.C.Collect.meaning (prime_value c.args.prime)
-    (g.L.Log.keeps c.args.log.now c.args.part) c.args.class kept c.requires.from_one)
+    (g.L.Log.keeps c.args.log.now c.args.run) c.args.class kept c.requires.from_one)
 
 pub returns-in_err-next-clause-refused : goal.returns-in_err-next-clause-refused
 returns-in_err-next-clause-refused g c kept =
     let p = err_from_is_err_and c.from_residual-in_err-next.result c.from_residual-in_err-next.ensures.1 in
     rw (p.1, p.2) (holds-wanting g.L.Log.FULL (part c.args.pres.now iterated_part) g.C.Collect.meaning (prime_value c.args.prime)
-    (g.L.Log.keeps c.loop-k.log c.args.part) (g.L.Log.keeps c.spun_class.new.log c.args.part)
+    (g.L.Log.keeps c.loop-k.log c.args.run) (g.L.Log.keeps c.spun_class.new.log c.args.run)
     c.loop-k.k c.args.class c.loop-k.answer (c.loop-k.invariant.3 kept) c.in_err-next.ensures.refused (omega (arith, c.loop-k-test.true)))
 
 pub returns-in_err-next-clause-other : goal.returns-in_err-next-clause-other
 returns-in_err-next-clause-other g c =
-    same-twice (g.L.Log.keeps c.args.log.now (other_run c.args.part)) (g.L.Log.keeps c.loop-k.log (other_run c.args.part))
-    (g.L.Log.keeps c.spun_class.new.log (other_run c.args.part)) c.loop-k.invariant.2 c.spun_class.ensures.other
+    same-twice (g.L.Log.keeps c.args.log.now (other_run c.args.run)) (g.L.Log.keeps c.loop-k.log (other_run c.args.run))
+    (g.L.Log.keeps c.spun_class.new.log (other_run c.args.run)) c.loop-k.invariant.2 c.spun_class.ensures.other
 
 pub returns-in-Same-clause-quotient : goal.returns-in-Same-clause-quotient
 returns-in-Same-clause-quotient g c =
@@ -74,16 +74,16 @@ returns-in-Same-clause-enough g c =
 
 pub returns-in-Same-clause-held : goal.returns-in-Same-clause-held
 returns-in-Same-clause-held g c kept =
-    holds-stopped g.L.Log.FULL (part c.args.pres.now iterated_part) g.C.Collect.meaning (prime_value c.args.prime) (g.L.Log.keeps c.loop-k.log c.args.part)
-    (g.L.Log.keeps c.spun_class.new.log c.args.part) c.loop-k.k c.args.class c.loop-k.answer (c.loop-k.invariant.3 kept)
+    holds-stopped g.L.Log.FULL (part c.args.pres.now iterated_part) g.C.Collect.meaning (prime_value c.args.prime) (g.L.Log.keeps c.loop-k.log c.args.run)
+    (g.L.Log.keeps c.spun_class.new.log c.args.run) c.loop-k.k c.args.class c.loop-k.answer (c.loop-k.invariant.3 kept)
     (subst (IsLogged g.L.Log.FULL (part c.args.pres.now iterated_part) g.C.Collect.meaning c.loop-k.answer
-    (g.L.Log.keeps c.loop-k.log c.args.part) (g.L.Log.keeps c.spun_class.new.log c.args.part)) c.in-Same.is c.in_ok-next.ensures.logged)
+    (g.L.Log.keeps c.loop-k.log c.args.run) (g.L.Log.keeps c.spun_class.new.log c.args.run)) c.in-Same.is c.in_ok-next.ensures.logged)
     (omega (arith, c.loop-k-test.true))
 
 pub returns-in-Same-clause-other : goal.returns-in-Same-clause-other
 returns-in-Same-clause-other g c =
-    same-twice (g.L.Log.keeps c.args.log.now (other_run c.args.part)) (g.L.Log.keeps c.loop-k.log (other_run c.args.part))
-    (g.L.Log.keeps c.spun_class.new.log (other_run c.args.part)) c.loop-k.invariant.2 c.spun_class.ensures.other
+    same-twice (g.L.Log.keeps c.args.log.now (other_run c.args.run)) (g.L.Log.keeps c.loop-k.log (other_run c.args.run))
+    (g.L.Log.keeps c.spun_class.new.log (other_run c.args.run)) c.loop-k.invariant.2 c.spun_class.ensures.other
 
 pub returns-in-TooLarge-clause-refusal : goal.returns-in-TooLarge-clause-refusal
 returns-in-TooLarge-clause-refusal g c = (
@@ -98,17 +98,17 @@ returns-in-TooLarge-clause-refusal g c = (
 
 pub returns-in-TooLarge-clause-refused : goal.returns-in-TooLarge-clause-refused
 returns-in-TooLarge-clause-refused g c kept =
-    holds-too_large g.L.Log.FULL (part c.args.pres.now iterated_part) g.C.Collect.meaning (prime_value c.args.prime) (g.L.Log.keeps c.loop-k.log c.args.part)
-    (g.L.Log.keeps c.spun_class.new.log c.args.part) c.loop-k.k c.args.class c.in-TooLarge.rank c.args.part c.loop-k.answer
+    holds-too_large g.L.Log.FULL (part c.args.pres.now iterated_part) g.C.Collect.meaning (prime_value c.args.prime) (g.L.Log.keeps c.loop-k.log c.args.run)
+    (g.L.Log.keeps c.spun_class.new.log c.args.run) c.loop-k.k c.args.class c.in-TooLarge.rank c.args.run c.loop-k.answer
     (c.loop-k.invariant.3 kept)
     (rank-few c.loop-k.answer.presentation c.pcp.result.now c.pcp.ensures.presentation c.rank-rank.ensures.presentation)
     (subst (IsLogged g.L.Log.FULL (part c.args.pres.now iterated_part) g.C.Collect.meaning c.loop-k.answer
-    (g.L.Log.keeps c.loop-k.log c.args.part) (g.L.Log.keeps c.spun_class.new.log c.args.part)) c.in-TooLarge.is c.in_ok-next.ensures.logged)
+    (g.L.Log.keeps c.loop-k.log c.args.run) (g.L.Log.keeps c.spun_class.new.log c.args.run)) c.in-TooLarge.is c.in_ok-next.ensures.logged)
 
 pub returns-in-TooLarge-clause-other : goal.returns-in-TooLarge-clause-other
 returns-in-TooLarge-clause-other g c =
-    same-twice (g.L.Log.keeps c.args.log.now (other_run c.args.part)) (g.L.Log.keeps c.loop-k.log (other_run c.args.part))
-    (g.L.Log.keeps c.spun_class.new.log (other_run c.args.part)) c.loop-k.invariant.2 c.spun_class.ensures.other
+    same-twice (g.L.Log.keeps c.args.log.now (other_run c.args.run)) (g.L.Log.keeps c.loop-k.log (other_run c.args.run))
+    (g.L.Log.keeps c.spun_class.new.log (other_run c.args.run)) c.loop-k.invariant.2 c.spun_class.ensures.other
 
 pub loop-k-preserved : goal.loop-k-preserved
 loop-k-preserved g c =
@@ -117,14 +117,14 @@ loop-k-preserved g c =
       subst (λ (k : ℕ). IsSpunGrown c.args.pres.now c.spun_class.new.recorded.items p k c.in-Next.next) place
           (subst (λ (s : Step). IsSpunStep c.args.pres.now c.spun_class.new.recorded.items p c.loop-k.k c.loop-k.answer s) c.in-Next.is
           c.in_ok-next.ensures.recorded),
-      one-more (g.L.Log.keeps c.loop-k.log c.args.part) (g.L.Log.keeps c.spun_class.new.log c.args.part) c.in_ok-next.ensures.logged.held
+      one-more (g.L.Log.keeps c.loop-k.log c.args.run) (g.L.Log.keeps c.spun_class.new.log c.args.run) c.in_ok-next.ensures.logged.held
           c.loop-k.k c.in_ok-next.ensures.logged.told c.loop-k.invariant.1,
-      same-twice (g.L.Log.keeps c.args.log.now (other_run c.args.part)) (g.L.Log.keeps c.loop-k.log (other_run c.args.part))
-          (g.L.Log.keeps c.spun_class.new.log (other_run c.args.part)) c.loop-k.invariant.2 c.spun_class.ensures.other,
-      (λ kept. holds-next g.L.Log.FULL (part c.args.pres.now iterated_part) g.C.Collect.meaning p (g.L.Log.keeps c.loop-k.log c.args.part)
-          (g.L.Log.keeps c.spun_class.new.log c.args.part) c.loop-k.k c.loop-k.answer c.in-Next.next (c.loop-k.invariant.3 kept)
+      same-twice (g.L.Log.keeps c.args.log.now (other_run c.args.run)) (g.L.Log.keeps c.loop-k.log (other_run c.args.run))
+          (g.L.Log.keeps c.spun_class.new.log (other_run c.args.run)) c.loop-k.invariant.2 c.spun_class.ensures.other,
+      (λ kept. holds-next g.L.Log.FULL (part c.args.pres.now iterated_part) g.C.Collect.meaning p (g.L.Log.keeps c.loop-k.log c.args.run)
+          (g.L.Log.keeps c.spun_class.new.log c.args.run) c.loop-k.k c.loop-k.answer c.in-Next.next (c.loop-k.invariant.3 kept)
           (subst (IsLogged g.L.Log.FULL (part c.args.pres.now iterated_part) g.C.Collect.meaning c.loop-k.answer
-          (g.L.Log.keeps c.loop-k.log c.args.part) (g.L.Log.keeps c.spun_class.new.log c.args.part)) c.in-Next.is c.in_ok-next.ensures.logged)),
+          (g.L.Log.keeps c.loop-k.log c.args.run) (g.L.Log.keeps c.spun_class.new.log c.args.run)) c.in-Next.is c.in_ok-next.ensures.logged)),
     )
 
 pub returns-clause-quotient : goal.returns-clause-quotient
@@ -151,5 +151,5 @@ returns-clause-other g c = c.loop-k.invariant.2
 
 pub returns-clause-held : goal.returns-clause-held
 returns-clause-held g c kept =
-    holds-whole g.L.Log.FULL (part c.args.pres.now iterated_part) g.C.Collect.meaning (prime_value c.args.prime) (g.L.Log.keeps c.loop-k.log c.args.part)
+    holds-whole g.L.Log.FULL (part c.args.pres.now iterated_part) g.C.Collect.meaning (prime_value c.args.prime) (g.L.Log.keeps c.loop-k.log c.args.run)
     c.loop-k.k c.args.class c.loop-k.answer (c.loop-k.invariant.3 kept) (omega (arith, c.loop-k-test.false, c.loop-k.auto.k-end))

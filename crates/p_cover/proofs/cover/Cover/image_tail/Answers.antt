@@ -1,7 +1,7 @@
 use Rattle.std.proofs.Common.{◌≡◌, ◌≤◌, ◌-◌, ℕ, None, Option, List, map, get_or, length, ap, sym, ◌∙◌, arith}
 use Rattle.std.proofs.lemmas.List.{get_or_read}
 use Rattle.pq_base.specs.Answer.{Definition as Source}
-use Rattle.p_cover.specs.Sources.{source_of}
+use Rattle.pc_presentation.specs.Definition.{definition_of}
 use Rattle.p_cover.proofs.CoverTails.{image_place, length-tails_of_images, no_image}
 use Rattle.p_cover.proofs.cover.Cover.image_tail.Goals as goal
 use Rattle.p_cover.proofs.cover.Cover.image_tail.Goals.{else-i-ge1-via-then-i-ge1+else-i-len, else-i-ge1-via-else-i-ge1}
@@ -9,7 +9,7 @@ use Rattle.p_cover.proofs.cover.Cover.image_tail.Goals.{else-i-ge1-via-then-i-ge
 pub returns-then-i-len : goal.returns-then-i-len
 returns-then-i-len c =
     let A = c.self.inside.answer in
-    let ds : List Source = map source_of c.self.inside.sources.items in
+    let ds : List Source = map definition_of c.self.inside.sources.items in
     let xs : List (Option ℕ) = c.self.inside.image_tails.items in
     let count : length xs ≡ length A.names = ap (length {A = Option ℕ}) c.self.invariant.1 ∙ length-tails_of_images A ds in
     let first : 1 ≤ c.args.i = c.if-i-ge1.true in
@@ -22,7 +22,7 @@ returns-then-i-len c =
 pub returns-else-i-ge1 : goal.returns-else-i-ge1
 returns-else-i-ge1 c =
     let A = c.self.inside.answer in
-    let ds : List Source = map source_of c.self.inside.sources.items in
+    let ds : List Source = map definition_of c.self.inside.sources.items in
     let xs : List (Option ℕ) = c.self.inside.image_tails.items in
     let count : length xs ≡ length A.names = ap (length {A = Option ℕ}) c.self.invariant.1 ∙ length-tails_of_images A ds in
     rw (← c.self.view_is)

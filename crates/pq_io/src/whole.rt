@@ -1,6 +1,6 @@
 //! Reading to the end under a limit, and writing the whole.
 
-ghost use Rattle.std.specs.Prelude.{◌≡◌, ◌+◌, ◌<◌, ◌≤◌, ℕ, Some, [], length, drop, vec_len, IfOk, OnOk, OnErr, IfSome, IsErrOf, IsNone};
+ghost use Rattle.std.specs.Prelude.{◌≡◌, ◌⊎◌, ◌+◌, ◌<◌, ◌≤◌, ℕ, Some, [], length, drop, vec_len, IfOk, OnOk, OnErr, IfSome, IsErrOf, IsNone};
 ghost use Rattle.pq_io.specs.Faults.{Rose};
 ghost use Rattle.pq_io.specs.Writing.{Gains, GainsProperPrefix};
 
@@ -47,6 +47,7 @@ const PIECE: usize = 4096;
 
 /// All bytes of a source. Reading ends where the source does, and also at a read that fails, where memory is wanting,
 /// and once one byte more than the limit was read.
+/// No read that failed is passed over: unless that is the refusal, the source has counted no fault.
 pub fn read_up_to<S: Source>(
     alloc: Global,
     source: &mut S,
@@ -57,6 +58,7 @@ pub fn read_up_to<S: Source>(
         (λ told. (bytes.items ≡ told) × (S.left source.new ≡ Some []))) }
     ensures failed { IsErrOf result InputRefusal.Failed → Rose (S.faults source.old) (S.faults source.new) }
     ensures too_long { IsErrOf result InputRefusal.TooLong → IfSome (S.left source.old) (λ told. limit < length told) }
+    ensures steady { (S.faults source.new ≡ S.faults source.old) ⊎ IsErrOf result InputRefusal.Failed }
     ensures count { S.faults source.old ≤ S.faults source.new }
     ensures left { IfSome (S.left source.old)
         (λ told. (n : ℕ) × (n ≤ limit + 1) × (S.left source.new ≡ Some (drop n told))) }
@@ -74,11 +76,13 @@ pub fn read_up_to<S: Source>(
     Err(InputRefusal::TooLong)
 }
 
-/// Offers all the bytes to a sink, and then all that it hasn't taken yet, until it has taken all or fails.
+/// Offers all the bytes to a sink, and then all that it hasn't taken yet, until it has taken all or fails. No write
+/// that failed is passed over.
 pub fn write_whole<K: Sink>(sink: &mut K, bytes: &[u8]) -> Result<(), Failed>
     ensures ok { OnOk result (Gains (K.taken sink.old) (K.taken sink.new) bytes.now) }
     ensures err { OnErr result (GainsProperPrefix (K.taken sink.old) (K.taken sink.new) bytes.now) }
     ensures cause { OnErr result (Rose (K.faults sink.old) (K.faults sink.new)) }
+    ensures steady { OnOk result (K.faults sink.new ≡ K.faults sink.old) }
     ensures count { K.faults sink.old ≤ K.faults sink.new }
     ensures silent { IsNone (K.taken sink.old) → IsNone (K.taken sink.new) }
 {

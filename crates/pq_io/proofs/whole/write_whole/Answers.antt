@@ -1,5 +1,5 @@
 -- A sink that fails has gained a proper prefix of the bytes, and each write leaves the rest to be offered.
-use Rattle.std.proofs.Common.{◌<◌, length, arith}
+use Rattle.std.proofs.Common.{◌<◌, length, ◌∙◌, arith}
 use Rattle.std.proofs.lemmas.Bool.Decides.{nat_tests}
 use Rattle.std.proofs.lemmas.Result.{err_from_is_err_and}
 use Rattle.std.proofs.lemmas.List.{take_rest}
@@ -15,7 +15,7 @@ returns-in_err-n-clause-err g c =
 
 pub loop-rest-preserved : goal.loop-rest-preserved
 loop-rest-preserved g c = record {
-  count = omega (arith, c.loop-rest.invariant.count, c.write.ensures.count);
+  steady = c.in_ok-n.ensures.steady ∙ c.loop-rest.invariant.steady;
   silent = λ s. c.write.ensures.silent (c.loop-rest.invariant.silent s);
   offered = simp take_rest (offered_more _ _ _ _ _ _ c.loop-rest.invariant.offered c.in_ok-n.ensures.bytes c.write.ensures.silent);
 }

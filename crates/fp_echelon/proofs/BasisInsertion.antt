@@ -1,5 +1,6 @@
 -- What an insertion does to a basis in memory: `slots` before, `old` and `new` around the call, and `stored` after it.
-use Rattle.std.proofs.Common.{◌≡◌, ◌≢◌, ℕ, zero, suc, ◌+◌, ◌*◌, ◌%◌, ◌-◌, ◌<◌, ◌≤◌, List, [], ◌∷◌, ◌++◌, length, take, get_or, refl, ap, ap₂, sym, ◌∙◌, subst, arith, add-one}
+use Rattle.std.proofs.Common.{◌≡◌, ◌≢◌, ℕ, zero, suc, ◌+◌, ◌*◌, ◌%◌, ◌-◌, ◌<◌, ◌≤◌, List, [], ◌∷◌, ◌++◌, length, take, get_or, refl, ap}
+use Rattle.std.proofs.Common.{ap₂, sym, ◌∙◌, subst, arith, add-one}
 use Rattle.fp_rows.specs.Rows.{IsRow}
 use Rattle.fp_rows.specs.Row.{PrimeRow}
 use Rattle.fp_echelon.specs.Span.{InSpan}
@@ -7,7 +8,8 @@ use Rattle.fp_echelon.specs.Reduced.{BasisRow, pivots_of}
 use Rattle.fp_echelon.specs.Basis.{Echelon, IsBasis}
 use Rattle.fp_echelon.specs.Slots.{Slot, AreSlots, HavePivots, HoldsBasis, echelon_of, all_seen, all_added, IsJoined, IsLeft}
 use Rattle.fp_echelon.proofs.SlotLaws.{AreSlots-own, AreSlots-fewer}
-use Rattle.fp_echelon.proofs.HeldBasis.{HavePivots-reduced, left_same, left_held, left_in_span, joined_held, joined_basis, joined_independent, joined_added, joined_pivots, joined_rank}
+use Rattle.fp_echelon.proofs.HeldBasis.{HavePivots-reduced, left_same, left_held, left_in_span, joined_held, joined_basis}
+use Rattle.fp_echelon.proofs.HeldBasis.{joined_independent, joined_added, joined_pivots, joined_rank}
 
 module _ (q width rank spare : ℕ) (slots old new stored : List Slot) (B : Echelon) (r : PrimeRow)
     (view : echelon_of q width rank spare slots ≡ B) (held : HoldsBasis q width rank spare slots) (same : old ≡ slots) (kept : stored ≡ new)
@@ -33,11 +35,13 @@ module _ (q width rank spare : ℕ) (slots old new stored : List Slot) (B : Eche
   pub given_pivots : HavePivots (length r.entries) (take rank old)
   given_pivots =
       subst (λ (w : ℕ). HavePivots w (take rank old)) same_width
-      (subst (λ (l : List Slot). HavePivots width (take rank l)) (sym same) (HavePivots-reduced q width rank (take rank slots) held.basis.reduced))
+      (subst (λ (l : List Slot). HavePivots width (take rank l)) (sym same)
+      (HavePivots-reduced q width rank (take rank slots) held.basis.reduced))
 
   module _ (fits : IsRow r.prime (length r.entries) r.entries) where
     fits' : IsRow q width r.entries
-    fits' = subst (λ (w : ℕ). IsRow q w r.entries) (sym same_width) (subst (λ (p : ℕ). IsRow p (length r.entries) r.entries) (sym same_prime) fits)
+    fits' = subst (λ (w : ℕ). IsRow q w r.entries) (sym same_width)
+        (subst (λ (p : ℕ). IsRow p (length r.entries) r.entries) (sym same_prime) fits)
 
     -- a row of the span
     module _ (left : IsLeft rank r.entries old new) where

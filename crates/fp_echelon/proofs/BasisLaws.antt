@@ -1,6 +1,7 @@
 -- A basis spans exactly what the added rows span. After an insertion it is a basis of one row more, and a row can be added
 -- exactly where it is not in the span.
-use Rattle.std.proofs.Common.{◌≡◌, ◌≢◌, ◌↔◌, ℕ, suc, ◌+◌, ◌*◌, ◌%◌, ◌<◌, ◌≤◌, List, [], ◌∷◌, ◌++◌, length, refl, ap, sym, ◌∙◌, subst, arith, length-append}
+use Rattle.std.proofs.Common.{◌≡◌, ◌≢◌, ◌↔◌, ℕ, suc, ◌+◌, ◌*◌, ◌%◌, ◌<◌, ◌≤◌, List, [], ◌∷◌, ◌++◌, length, refl, ap, sym, ◌∙◌, subst, arith}
+use Rattle.std.proofs.Common.{length-append}
 use Rattle.fp_rows.specs.Rows.{IsRow}
 use Rattle.fp_rows.specs.Row.{at_column, IsLastNonzero}
 use Rattle.fp_rows.proofs.EntryLaws.{at_column-zeros}
@@ -17,7 +18,8 @@ use Rattle.fp_echelon.proofs.SumLaws.{AreSums-inserted}
 use Rattle.fp_echelon.proofs.InsertionLaws.{length-inserted, IsReduced-inserted, EachInSpan-inserted}
 
 -- sums of the added rows are in their span
-EachInSpan-sums : (p width : ℕ) (added : List (List ℕ)) (bs : List BasisRow) → AreSums p width added bs → EachInSpan p width added (rows_of bs)
+EachInSpan-sums : (p width : ℕ) (added : List (List ℕ)) (bs : List BasisRow) → AreSums p width added bs
+    → EachInSpan p width added (rows_of bs)
 EachInSpan-sums p width added [] sums = tt
 EachInSpan-sums p width added (b ∷ bs) sums =
     let s = sums.0 in
@@ -43,7 +45,8 @@ module _ (B : Echelon) (basis : IsBasis B) where
     dependent_from_zero e =
         let two = basis.prime in
         (basis_spans x).1
-        (InSpan-from_representative B.prime B.width (omega arith) B.rows x (reduce_by B.prime B.rows x) basis.reduced row reduced_representative e)
+        (InSpan-from_representative B.prime B.width (omega arith) B.rows x
+        (reduce_by B.prime B.rows x) basis.reduced row reduced_representative e)
 
     -- and others do not
     pub independent_from_nonzero : (c : ℕ) → IsLastNonzero (reduce_by B.prime B.rows x) c → InSpan B.prime B.width B.added x → ⊥
@@ -78,5 +81,7 @@ module _ (B : Echelon) (basis : IsBasis B) where
           );
           reduced = IsReduced-inserted B.prime B.width (omega arith) B.rows x (length B.added) c k basis.reduced row last one;
           sums = AreSums-inserted B.prime B.width (omega arith) B.added x basis.added more row c k B.rows basis.sums;
-          spanned = EachInSpan-inserted B.prime B.width (omega arith) B.rows x (length B.added) c k basis.reduced row last one B.added basis.spanned;
+          spanned =
+              EachInSpan-inserted B.prime B.width (omega arith) B.rows x (length B.added) c k basis.reduced row last one B.added
+              basis.spanned;
         }

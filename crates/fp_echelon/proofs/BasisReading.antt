@@ -85,7 +85,8 @@ module _ (q width rank spare : ℕ) (slots : List Slot) (B : Echelon)
       pub pivots_to_reduce : HavePivots (length r.entries) (take rank old)
       pivots_to_reduce =
           subst (λ (w : ℕ). HavePivots w (take rank old)) (ap (λ (E : Echelon). E.width) view ∙ sym wide)
-          (subst (λ (l : List Slot). HavePivots width (take rank l)) (sym same) (HavePivots-reduced q width rank (take rank slots) held.basis.reduced))
+          (subst (λ (l : List Slot). HavePivots width (take rank l)) (sym same)
+          (HavePivots-reduced q width rank (take rank slots) held.basis.reduced))
 
       pub representative_left : (new : PrimeRow) → IsRow r.prime (length r.entries) r.entries
           → new ≡ record { prime = r.prime; entries = reduce_by r.prime (all_seen rank (take rank old)) r.entries }
@@ -93,7 +94,8 @@ module _ (q width rank spare : ℕ) (slots : List Slot) (B : Echelon)
       representative_left new row is =
           let basis = subst (λ (E : Echelon). IsBasis E) view held.basis in
           let two = basis.prime in
-          let row' = subst (λ (w : ℕ). IsRow B.prime w r.entries) wide (subst (λ (p : ℕ). IsRow p (length r.entries) r.entries) prime row) in
+          let row' =
+          subst (λ (w : ℕ). IsRow B.prime w r.entries) wide (subst (λ (p : ℕ). IsRow p (length r.entries) r.entries) prime row) in
           let entries : reduce_by B.prime B.rows r.entries ≡ new.entries =
           sym (ap (λ (n : PrimeRow). n.entries) is
           ∙ ap (λ (p : ℕ). reduce_by p (all_seen rank (take rank old)) r.entries) prime
@@ -109,7 +111,8 @@ module _ (q width rank spare : ℕ) (slots : List Slot) (B : Echelon)
       zero_in_span new row is zero_row =
           let basis = subst (λ (E : Echelon). IsBasis E) view held.basis in
           let two = basis.prime in
-          let row' = subst (λ (w : ℕ). IsRow B.prime w r.entries) wide (subst (λ (p : ℕ). IsRow p (length r.entries) r.entries) prime row) in
+          let row' =
+          subst (λ (w : ℕ). IsRow B.prime w r.entries) wide (subst (λ (p : ℕ). IsRow p (length r.entries) r.entries) prime row) in
           let left = representative_left new row is in
           (basis_spans B basis r.entries).1
           (InSpan-from_representative B.prime B.width (omega arith) B.rows r.entries new.entries basis.reduced row' left

@@ -1,6 +1,7 @@
 -- A reduced basis stays reduced when a row that is 0 at its pivots, and has 1 at its own last nonzero column, clears that
 -- column in each row and joins it.
-use Rattle.std.proofs.Common.{◌≡◌, ◌≢◌, ℕ, zero, suc, ◌+◌, ◌*◌, ◌%◌, ◌-◌, ◌<◌, ◌≤◌, List, [], ◌∷◌, ◌++◌, length, refl, ap, ap₂, sym, ◌∙◌, subst, arith, mod-eq_of_lt, ⊎_elim, mul_comm}
+use Rattle.std.proofs.Common.{◌≡◌, ◌≢◌, ℕ, zero, suc, ◌+◌, ◌*◌, ◌%◌, ◌-◌, ◌<◌, ◌≤◌, List, [], ◌∷◌, ◌++◌, length, refl, ap, ap₂, sym, ◌∙◌}
+use Rattle.std.proofs.Common.{subst, arith, mod-eq_of_lt, ⊎_elim, mul_comm}
 use Rattle.std.proofs.Math.Nat.{mul-mod_right, mul-zero, zero-mul}
 use Rattle.std.proofs.lemmas.Bool.{cases_lt}
 use Rattle.fp_rows.specs.Rows.{IsRow, scale_row, add_scaled}

@@ -1,5 +1,6 @@
 -- What the calls of an entry leave in its memory: residues again. An entry whose column is 0 already stays as it is.
-use Rattle.std.proofs.Common.{◌≡◌, ℕ, zero, suc, ◌+◌, ◌*◌, ◌%◌, ◌-◌, ◌<◌, ◌≤◌, List, [], ◌∷◌, ◌++◌, length, take, drop, refl, ap, ap₂, sym, ◌∙◌, subst, arith, take-append-drop, length-take, mod-eq_of_lt}
+use Rattle.std.proofs.Common.{◌≡◌, ℕ, zero, suc, ◌+◌, ◌*◌, ◌%◌, ◌-◌, ◌<◌, ◌≤◌, List, [], ◌∷◌, ◌++◌, length, take, drop, refl, ap, ap₂, sym}
+use Rattle.std.proofs.Common.{◌∙◌, subst, arith, take-append-drop, length-take, mod-eq_of_lt}
 use Rattle.std.proofs.Math.Nat.{mul-mod_right}
 use Rattle.std.proofs.lemmas.List.{take_at, length-take-le}
 use Rattle.pq_base.specs.Table.{AllBelow}
@@ -68,7 +69,8 @@ cleared_slot-none p width n a s h slot slot' none =
     (slot.row.count ∙ sym slot'.row.count) in
     let coefficients = add_front-none s.prime n s.coefficients a.coefficients some
     (subst (λ (q : ℕ). AllBelow q s.coefficients) (sym slot'.prime) slot'.below) slot'.room slot.room in
-    ap₂ (λ (l m : List ℕ). record { prime = s.prime; pivot = s.pivot; added = s.added; row = l; coefficients = m }) (sym row) (sym coefficients)
+    ap₂ (λ (l m : List ℕ). record { prime = s.prime; pivot = s.pivot; added = s.added; row = l; coefficients = m }) (sym row)
+    (sym coefficients)
     ∙ ap (λ (j : ℕ). plus_slot n j a s) (sym k)
 
 -- p - k is the negative of a residue k that isn't 0

@@ -1,5 +1,6 @@
 -- A reduced basis with as many rows as columns has a pivot at each column, so it spans every row.
-use Rattle.std.proofs.Common.{◌≡◌, ℕ, suc, ◌-◌, ◌<◌, ◌≤◌, ◌||◌, Bool, true, false, List, [], ◌∷◌, length, get_or, eqb, refl, ap, sym, ◌∙◌, subst, arith}
+use Rattle.std.proofs.Common.{◌≡◌, ℕ, suc, ◌-◌, ◌<◌, ◌≤◌, ◌||◌, Bool, true, false, List, [], ◌∷◌, length, get_or, eqb, refl, ap, sym, ◌∙◌}
+use Rattle.std.proofs.Common.{subst, arith}
 use borrow.Author.Tests.{eqb-true}
 use Rattle.std.specs.List.{AllByRecursion, list_any}
 use Rattle.std.proofs.lemmas.Map.Keys.{IsDistinct-cons}
@@ -44,7 +45,8 @@ module _ (p width : ℕ) (bs : List BasisRow) (reduced : IsReduced p width bs) w
             (λ e. subst (λ (n : ℕ). n < width) (sym (eqb-true r q e)) l) (places-below p width bs r reduced) h),
       )
 
-  zero_at : (y : List ℕ) (q : ℕ) → width ≤ length bs → q < width → ZeroAtPivots y bs → (b : Bool) → list_any (eqb q) (places bs) ≡ b → get_or y q 0 ≡ 0
+  zero_at : (y : List ℕ) (q : ℕ) → width ≤ length bs → q < width → ZeroAtPivots y bs → (b : Bool) → list_any (eqb q) (places bs) ≡ b
+      → get_or y q 0 ≡ 0
   zero_at y q full l none true e = zero_at_place y bs q none e
   zero_at y q full l none false e = let more = one_more q l e in absurd (omega arith)
 
@@ -54,4 +56,5 @@ module _ (p width : ℕ) (bs : List BasisRow) (reduced : IsReduced p width bs) w
       let wide = r.fits.count in
       let none = IsZeroRow-from_entries (reduce_by p bs x)
       (λ i l. zero_at (reduce_by p bs x) i full (subst (λ (n : ℕ). i < n) wide l) r.zero (list_any (eqb i) (places bs)) refl) in
-      InSpan-from_representative p width some bs x (reduce_by p bs x) reduced row r (IsZeroRow-is_zeros (reduce_by p bs x) none ∙ ap zeros r.fits.count)
+      InSpan-from_representative p width some bs x (reduce_by p bs x) reduced row r
+      (IsZeroRow-is_zeros (reduce_by p bs x) none ∙ ap zeros r.fits.count)

@@ -1,10 +1,12 @@
 -- Slots that are given room, and new slots after them, hold the same basis with more to spare.
-use Rattle.std.proofs.Common.{◌≡◌, ℕ, zero, suc, ◌+◌, ◌-◌, ◌<◌, ◌≤◌, List, [], ◌∷◌, ◌++◌, length, take, drop, map, replicate, get_or, max, refl, ap, ap₂, sym, ◌∙◌, subst, arith, length-append, append_assoc}
+use Rattle.std.proofs.Common.{◌≡◌, ℕ, zero, suc, ◌+◌, ◌-◌, ◌<◌, ◌≤◌, List, [], ◌∷◌, ◌++◌, length, take, drop, map, replicate, get_or, max}
+use Rattle.std.proofs.Common.{refl, ap, ap₂, sym, ◌∙◌, subst, arith, length-append, append_assoc}
 use Rattle.std.proofs.lemmas.List.{take-append-le, length-replicate, append-nil, take_all, drop_all}
 use Rattle.pq_base.specs.Elementary.{zeros}
 use Rattle.fp_echelon.specs.Reduced.{BasisRow}
 use Rattle.fp_echelon.specs.Basis.{Echelon, IsBasis}
-use Rattle.fp_echelon.specs.Slots.{Slot, IsSlot, AreSlots, HoldsBasis, echelon_of, seen, all_seen, all_added, grown_slot, new_slot, grown_front, IsGrown, AreGrown}
+use Rattle.fp_echelon.specs.Slots.{Slot, IsSlot, AreSlots, HoldsBasis, echelon_of, seen, all_seen, all_added, grown_slot, new_slot}
+use Rattle.fp_echelon.specs.Slots.{grown_front, IsGrown, AreGrown}
 use Rattle.fp_echelon.proofs.SlotLaws.{IsSlot-grown_slot, IsSlot-new_slot, IsSlot-fewer, AreSlots-append, AreSlots-fewer}
 
 -- the first slots show the same rows of a basis and the same added rows
@@ -104,7 +106,8 @@ module _ (p width : ℕ) (some : 0 < p) where
           let room = held.room in
           record {
             are_slots = subst (λ (l : List Slot). AreSlots p width (rank + spare) l) (sym grown.slots)
-                (AreSlots-append p width (rank + spare) (grown_front (rank + rows) grown.grown old) (replicate grown.more (new_slot p width (rank + rows)))
+                (AreSlots-append p width (rank + spare) (grown_front (rank + rows) grown.grown old)
+                (replicate grown.more (new_slot p width (rank + rows)))
                 (AreSlots-grown_front (rank + spare) (rank + rows) grown.grown old held.are_slots)
                 (AreSlots-fewer p width (rank + rows) (rank + spare) (replicate grown.more (new_slot p width (rank + rows))) (omega arith)
                 (AreSlots-new (rank + rows) grown.more)));
@@ -117,7 +120,8 @@ module _ (p width : ℕ) (some : 0 < p) where
       whole_slots =
           whole.slots
           ∙ ap (λ (l : List Slot). l ++ replicate whole.more (new_slot p width (rank + rows)))
-          (sym (ap₂ (λ (a b : List Slot). map (grown_slot (rank + rows)) a ++ b) (take_all (length old) old (omega arith)) (drop_all (length old) old (omega arith))
+          (sym (ap₂ (λ (a b : List Slot). map (grown_slot (rank + rows)) a ++ b) (take_all (length old) old (omega arith))
+          (drop_all (length old) old (omega arith))
           ∙ append-nil (map (grown_slot (rank + rows)) old)))
 
       pub whole_same : echelon_of p width rank rows new ≡ echelon_of p width rank rows old
@@ -140,7 +144,8 @@ module _ (p width : ℕ) (some : 0 < p) where
           } in
           record {
             are_slots = subst (λ (l : List Slot). AreSlots p width (rank + rows) l) (sym whole.slots)
-                (AreSlots-append p width (rank + rows) (map (grown_slot (rank + rows)) old) (replicate whole.more (new_slot p width (rank + rows)))
+                (AreSlots-append p width (rank + rows) (map (grown_slot (rank + rows)) old)
+                (replicate whole.more (new_slot p width (rank + rows)))
                 (AreSlots-room (rank + spare) (rank + rows) old held.are_slots) (AreSlots-new (rank + rows) whole.more));
             room = whole.enough;
             basis = subst (λ (B : Echelon). IsBasis B) (sym whole_same) basis';

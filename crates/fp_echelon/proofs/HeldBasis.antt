@@ -1,5 +1,6 @@
 -- An insertion keeps that the slots hold a basis: with one row more, or unchanged where the row is in the span.
-use Rattle.std.proofs.Common.{◌≡◌, ◌≢◌, ◌↔◌, ℕ, zero, suc, ◌+◌, ◌*◌, ◌%◌, ◌-◌, ◌<◌, ◌≤◌, List, [], ◌∷◌, ◌++◌, length, take, get_or, refl, ap, ap₂, sym, ◌∙◌, subst, arith}
+use Rattle.std.proofs.Common.{◌≡◌, ◌≢◌, ◌↔◌, ℕ, zero, suc, ◌+◌, ◌*◌, ◌%◌, ◌-◌, ◌<◌, ◌≤◌, List, [], ◌∷◌, ◌++◌, length, take, get_or, refl}
+use Rattle.std.proofs.Common.{ap, ap₂, sym, ◌∙◌, subst, arith}
 use Rattle.std.proofs.lemmas.List.{length-take-le}
 use Rattle.fp_rows.specs.Rows.{IsRow}
 use Rattle.fp_rows.specs.Row.{at_column, IsZeroRow, IsLastNonzero}
@@ -10,10 +11,12 @@ use Rattle.fp_echelon.specs.Reduced.{BasisRow, rows_of, pivots_of, IsPivotRow, I
 use Rattle.fp_echelon.specs.Reduction.{reduce_by}
 use Rattle.fp_echelon.proofs.InsertionSteps.{inserted}
 use Rattle.fp_echelon.specs.Basis.{Echelon, IsBasis}
-use Rattle.fp_echelon.specs.Slots.{Slot, AreSlots, HasPivot, HavePivots, HoldsBasis, echelon_of, all_seen, all_added, reduced_slots, no_slot, IsJoined, IsLeft}
+use Rattle.fp_echelon.specs.Slots.{Slot, AreSlots, HasPivot, HavePivots, HoldsBasis, echelon_of, all_seen, all_added, reduced_slots}
+use Rattle.fp_echelon.specs.Slots.{no_slot, IsJoined, IsLeft}
 use Rattle.fp_echelon.proofs.ReductionLaws.{IsRow-reduce_by, AreRows-reduced}
 use Rattle.fp_echelon.proofs.SlotLaws.{AreSlots-fewer}
-use Rattle.fp_echelon.proofs.InsertedSlots.{get_or-reduced, echelon_of-reduced, length-reduced, row-fresh, AreSlots-reduced, echelon_of-joined, length-joined, AreSlots-joined}
+use Rattle.fp_echelon.proofs.InsertedSlots.{get_or-reduced, echelon_of-reduced, length-reduced, row-fresh, AreSlots-reduced}
+use Rattle.fp_echelon.proofs.InsertedSlots.{echelon_of-joined, length-joined, AreSlots-joined}
 use Rattle.fp_echelon.proofs.InsertionLaws.{pivots_of-inserted}
 use Rattle.fp_echelon.proofs.BasisLaws.{dependent_from_zero, independent_from_nonzero, IsBasis-inserted}
 use Rattle.fp_echelon.proofs.RankLaws.{rank-le}
@@ -35,7 +38,8 @@ HavePivots-reduced p width n (s ∷ slots) reduced =
     let most = reduced.0.last.column.last in
     (record { first = least; last = omega arith }, HavePivots-reduced p width n slots reduced.2)
 
-module _ (p width n spare : ℕ) (slots new : List Slot) (x : List ℕ) (row : IsRow p width x) (held : HoldsBasis p width n (suc spare) slots) where
+module _ (p width n spare : ℕ) (slots new : List Slot) (x : List ℕ) (row : IsRow p width x)
+    (held : HoldsBasis p width n (suc spare) slots) where
   abbrev before : Echelon
   before = echelon_of p width n (suc spare) slots
 
@@ -118,7 +122,11 @@ module _ (p width n spare : ℕ) (slots new : List Slot) (x : List ℕ) (row : I
           are_slots = subst (λ (l : List Slot). AreSlots p width (suc n + spare) l) (sym joined.slots)
               (AreSlots-joined p width n some slots fits x row enough c joined.factor (suc n + spare) (omega arith)
               (subst (λ (m : ℕ). AreSlots p width m slots) same held.are_slots));
-          room = omega (arith, ap (λ (l : List Slot). length l) joined.slots, length-joined p width n some slots fits x row enough c joined.factor);
+          room = omega (
+            arith,
+            ap (λ (l : List Slot). length l) joined.slots,
+            length-joined p width n some slots fits x row enough c joined.factor,
+          );
           basis = joined_basis;
         }
 

@@ -1,5 +1,6 @@
 -- The slots after an insertion hold the basis that the insertion leaves.
-use Rattle.std.proofs.Common.{◌≡◌, ◌≢◌, ◌↔◌, ℕ, zero, suc, ◌+◌, ◌*◌, ◌%◌, ◌-◌, ◌<◌, ◌≤◌, List, [], ◌∷◌, ◌++◌, length, take, drop, map, get_or, refl, ap, ap₂, sym, ◌∙◌, subst, arith, length-append, append_assoc}
+use Rattle.std.proofs.Common.{◌≡◌, ◌≢◌, ◌↔◌, ℕ, zero, suc, ◌+◌, ◌*◌, ◌%◌, ◌-◌, ◌<◌, ◌≤◌, List, [], ◌∷◌, ◌++◌, length, take, drop, map}
+use Rattle.std.proofs.Common.{get_or, refl, ap, ap₂, sym, ◌∙◌, subst, arith, length-append, append_assoc}
 use Rattle.std.proofs.Math.ListN.{set}
 use Rattle.std.proofs.lemmas.List.{take_at, length-take-le, length-drop, get_or_at, take-set, length_push, drop_at, length-map}
 use Rattle.fp_rows.specs.Rows.{IsRow}
@@ -11,11 +12,15 @@ use Rattle.fp_echelon.specs.Reduced.{BasisRow, rows_of, IsReduced}
 use Rattle.fp_echelon.specs.Reduction.{reduce_by}
 use Rattle.fp_echelon.proofs.InsertionSteps.{started, extended, clear_by_each, clear_each, scaled, new_row, inserted}
 use Rattle.fp_echelon.specs.Basis.{Echelon, IsBasis}
-use Rattle.fp_echelon.specs.Slots.{Slot, IsSlot, AreSlots, HoldsBasis, echelon_of, seen, all_seen, all_added, cleared_slot, cleared_by_each, placed_slot, scaled_slot, started_slot, reduced_slots, joined_slots, no_slot, IsJoined, IsLeft}
+use Rattle.fp_echelon.specs.Slots.{Slot, IsSlot, AreSlots, HoldsBasis, echelon_of, seen, all_seen, all_added, cleared_slot, cleared_by_each}
+use Rattle.fp_echelon.specs.Slots.{placed_slot, scaled_slot, started_slot, reduced_slots, joined_slots, no_slot, IsJoined, IsLeft}
 use Rattle.fp_echelon.proofs.SumLaws.{row-clear_by_each, reduce_by-extended}
 use Rattle.fp_echelon.proofs.ReductionLaws.{IsRow-reduce_by, AreRows-reduced}
-use Rattle.fp_echelon.proofs.SlotLaws.{IsSlot-fewer, IsSlot-started_slot, IsSlot-cleared_by_each, IsSlot-cleared_slot, IsSlot-scaled_slot, IsSlot-placed_slot, AreSlots-at, AreSlots-append, AreSlots-take, AreSlots-drop, AreSlots-fewer, AreSlots-placed, AreSlots-cleared, HaveRoom-slots}
-use Rattle.fp_echelon.proofs.SeenLaws.{seen-cleared_by_each, seen-scaled_slot, all_seen-cleared, seen-started_slot, all_seen-placed, all_added-placed, all_added-cleared, added-cleared_by_each, all_seen-append, all_added-append}
+use Rattle.fp_echelon.proofs.SlotLaws.{IsSlot-fewer, IsSlot-started_slot, IsSlot-cleared_by_each, IsSlot-cleared_slot, IsSlot-scaled_slot}
+use Rattle.fp_echelon.proofs.SlotLaws.{IsSlot-placed_slot, AreSlots-at, AreSlots-append, AreSlots-take, AreSlots-drop, AreSlots-fewer}
+use Rattle.fp_echelon.proofs.SlotLaws.{AreSlots-placed, AreSlots-cleared, HaveRoom-slots}
+use Rattle.fp_echelon.proofs.SeenLaws.{seen-cleared_by_each, seen-scaled_slot, all_seen-cleared, seen-started_slot, all_seen-placed}
+use Rattle.fp_echelon.proofs.SeenLaws.{all_added-placed, all_added-cleared, added-cleared_by_each, all_seen-append, all_added-append}
 use Rattle.fp_echelon.proofs.BasisLaws.{dependent_from_zero, independent_from_nonzero, IsBasis-inserted}
 
 -- the first n coefficients stay when the next is made 0
@@ -71,7 +76,8 @@ module _ (p width n : ℕ) (some : 1 < p) (slots : List Slot) (fits : n < length
     begun = IsSlot-started_slot p width (omega arith) n (suc n) x (get_or slots n no_slot) some row here here
 
     fresh_is : IsSlot p width (suc n) fresh
-    fresh_is = IsSlot-cleared_by_each p width (omega arith) (suc n) (suc n) older (started_slot n x (get_or slots n no_slot)) older_are begun begun
+    fresh_is =
+        IsSlot-cleared_by_each p width (omega arith) (suc n) (suc n) older (started_slot n x (get_or slots n no_slot)) older_are begun begun
 
     seen-fresh : seen (suc n) fresh ≡ clear_by_each p (extended basis_rows) (started x n)
     seen-fresh =
@@ -92,7 +98,8 @@ module _ (p width n : ℕ) (some : 1 < p) (slots : List Slot) (fits : n < length
         AreSlots-append p width m older (fresh ∷ drop (suc n) slots)
         (AreSlots-placed p width (omega arith) n m (take n slots) (AreSlots-take p width m n slots are')) (
           IsSlot-cleared_by_each p width (omega arith) (suc n) m older (started_slot n x (get_or slots n no_slot)) older_are begun
-              (IsSlot-started_slot p width (omega arith) n m x (get_or slots n no_slot) some row here (AreSlots-at p width m slots n no_slot fits are')),
+              (IsSlot-started_slot p width (omega arith) n m x (get_or slots n no_slot) some row here
+              (AreSlots-at p width m slots n no_slot fits are')),
           AreSlots-drop p width m (suc n) slots are',
         )
 
@@ -123,7 +130,8 @@ module _ (p width n : ℕ) (some : 1 < p) (slots : List Slot) (fits : n < length
       take-joined : take (suc n) joined ≡ cleared_older ++ last_slot ∷ []
       take-joined =
           ap (take (suc n)) (joined-is ∙ sym (append_assoc cleared_older (last_slot ∷ []) (drop (suc n) slots)))
-          ∙ take_at (cleared_older ++ last_slot ∷ []) (drop (suc n) slots) (suc n) (omega (arith, length_push cleared_older last_slot, length-cleared_older))
+          ∙ take_at (cleared_older ++ last_slot ∷ []) (drop (suc n) slots) (suc n)
+          (omega (arith, length_push cleared_older last_slot, length-cleared_older))
 
       seen-last : seen (suc n) last_slot ≡ new_row p c k x n basis_rows
       seen-last = seen-scaled_slot p width (omega arith) (suc n) c k fresh fresh_is ∙ ap (scaled p c k) seen-fresh
@@ -169,7 +177,8 @@ module _ (p width n : ℕ) (some : 1 < p) (slots : List Slot) (fits : n < length
 
       pub AreSlots-joined : (m : ℕ) → suc n ≤ m → AreSlots p width m slots → AreSlots p width m joined
       AreSlots-joined m h are' =
-          let fresh_are = AreSlots-at p width m (reduced_slots n x slots) n no_slot (omega (arith, length-reduced)) (AreSlots-reduced m h are') in
+          let fresh_are =
+          AreSlots-at p width m (reduced_slots n x slots) n no_slot (omega (arith, length-reduced)) (AreSlots-reduced m h are') in
           let fresh_is' = subst (λ (s : Slot). IsSlot p width m s) get_or-reduced fresh_are in
           subst (λ (l : List Slot). AreSlots p width m l) (sym joined-is)
           (AreSlots-append p width m cleared_older (last_slot ∷ drop (suc n) slots)

@@ -1,6 +1,7 @@
 -- After the insertion of a row that is not in the span, the rows are a reduced basis of the span of all added rows, this
 -- one too.
-use Rattle.std.proofs.Common.{◌≡◌, ◌≢◌, ◌↔◌, ℕ, zero, suc, ◌+◌, ◌*◌, ◌%◌, ◌-◌, ◌<◌, ◌≤◌, List, [], ◌∷◌, ◌++◌, length, refl, ap, ap₂, sym, ◌∙◌, subst, arith, length-append, inl, inr}
+use Rattle.std.proofs.Common.{◌≡◌, ◌≢◌, ◌↔◌, ℕ, zero, suc, ◌+◌, ◌*◌, ◌%◌, ◌-◌, ◌<◌, ◌≤◌, List, [], ◌∷◌, ◌++◌, length, refl, ap, ap₂, sym}
+use Rattle.std.proofs.Common.{◌∙◌, subst, arith, length-append, inl, inr}
 use Rattle.fp_rows.specs.Rows.{IsRow, add_rows, scale_row, add_scaled}
 use Rattle.fp_rows.specs.Row.{at_column, IsLastNonzero}
 use Rattle.fp_rows.proofs.RowLaws.{scale_row-scale_row, scale_row-mod, scale_row-one}
@@ -8,16 +9,19 @@ use Rattle.fp_rows.proofs.EntryLaws.{at_column-zeros}
 use Rattle.pq_base.specs.Elementary.{zeros}
 use Rattle.fp_rows.specs.Differences.{difference}
 use Rattle.fp_echelon.specs.Span.{AreRows, InSpan, EachInSpan}
-use Rattle.fp_echelon.specs.Reduced.{BasisRow, rows_of, pivots_of, IsPivot, ZeroAt, ZeroAtPivots, IsPivotRow, AreApart, IsReduced, IsRepresentative}
+use Rattle.fp_echelon.specs.Reduced.{BasisRow, rows_of, pivots_of, IsPivot, ZeroAt, ZeroAtPivots, IsPivotRow, AreApart, IsReduced}
+use Rattle.fp_echelon.specs.Reduced.{IsRepresentative}
 use Rattle.fp_echelon.specs.Reduction.{cleared, reduce_by}
 use Rattle.fp_echelon.proofs.InsertionSteps.{started, extended, clear_by, clear_by_each, clear_each, scaled, new_row, inserted}
 use Rattle.fp_echelon.specs.Basis.{Echelon, IsBasis}
-use Rattle.fp_echelon.proofs.SpanLaws.{IsRow-InSpan, InSpan-scale_row, InSpan-trans, EachInSpan-own, EachInSpan-trans, EachInSpan-push, AreRows-push, InSpan-last, EachInSpan-front}
+use Rattle.fp_echelon.proofs.SpanLaws.{IsRow-InSpan, InSpan-scale_row, InSpan-trans, EachInSpan-own, EachInSpan-trans, EachInSpan-push}
+use Rattle.fp_echelon.proofs.SpanLaws.{AreRows-push, InSpan-last, EachInSpan-front}
 use Rattle.fp_echelon.proofs.SpanDifferences.{InSpan-turned, InSpan-shifted}
 use Rattle.fp_echelon.proofs.ReductionLaws.{AreRows-reduced, length-rows_of, InSpan-cleared, IsRepresentative-reduce_by, IsRow-cleared}
 use Rattle.fp_echelon.proofs.PivotLaws.{representative-zero, InSpan-from_representative}
 use Rattle.fp_echelon.proofs.SumLaws.{rows_of-extended, row-new_row, row-clear_by_each, reduce_by-extended}
-use Rattle.fp_echelon.proofs.ClearedLaws.{IsPivotRow-scaled, ZeroAtPivots-scale_row, ZeroAt-clear_each, ZeroAtPivots-clear_each, IsReduced-clear_each, IsReduced-push}
+use Rattle.fp_echelon.proofs.ClearedLaws.{IsPivotRow-scaled, ZeroAtPivots-scale_row, ZeroAt-clear_each, ZeroAtPivots-clear_each}
+use Rattle.fp_echelon.proofs.ClearedLaws.{IsReduced-clear_each, IsReduced-push}
 
 rows_of-push : (bs : List BasisRow) (a : BasisRow) → rows_of (bs ++ a ∷ []) ≡ rows_of bs ++ a.row ∷ []
 rows_of-push [] a = refl
@@ -166,10 +170,12 @@ module _ (p width : ℕ) (some : 1 < p) where
         (InSpan-scale_row p width (at_column reduction c) (rows_of after) joined.row (omega arith) new_in_span) in
         InSpan-shifted p width some (rows_of after) are_after x reduction row representative.fits
         (InSpan-turned p width some (rows_of after) are_after reduction x representative.fits row
-        (InSpan-trans p width (rows_of after) (rows_of bs) (difference p reduction x) (omega arith) are_after old_in_span representative.span))
+        (InSpan-trans p width (rows_of after) (rows_of bs) (difference p reduction x)
+        (omega arith) are_after old_in_span representative.span))
         reduction_in_span
 
-    pub EachInSpan-inserted : (added : List (List ℕ)) → EachInSpan p width (rows_of bs) added → EachInSpan p width (rows_of after) (added ++ x ∷ [])
+    pub EachInSpan-inserted : (added : List (List ℕ)) → EachInSpan p width (rows_of bs) added
+        → EachInSpan p width (rows_of after) (added ++ x ∷ [])
     EachInSpan-inserted added each =
         EachInSpan-push p width (rows_of after) added x
         (EachInSpan-trans p width (rows_of after) (rows_of bs) added (omega arith) are_after old_in_span each) inserted_in_span

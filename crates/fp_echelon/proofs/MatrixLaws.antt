@@ -6,7 +6,8 @@ use Rattle.fp_rows.proofs.RowLaws.{IsRow-scale_row}
 use Rattle.fp_echelon.specs.Span.{combine, AreRows, InSpan, EachInSpan}
 use Rattle.fp_echelon.specs.Matrix.{times_matrix, Carries}
 use Rattle.fp_echelon.specs.MatrixLaws.{MatricesAreLinear, MatricesCarrySpans}
-use Rattle.fp_echelon.proofs.SpanLaws.{IsRow-combine, combine-add_rows, combine-scale_row, combine-zeros, InSpan-zeros, InSpan-add_rows, InSpan-scale_row}
+use Rattle.fp_echelon.proofs.SpanLaws.{IsRow-combine, combine-add_rows, combine-scale_row, combine-zeros, InSpan-zeros, InSpan-add_rows}
+use Rattle.fp_echelon.proofs.SpanLaws.{InSpan-scale_row}
 
 pub matrices_are_linear : MatricesAreLinear
 matrices_are_linear m is =
@@ -43,5 +44,6 @@ module _ (p width : ℕ) (some : 0 < p) (m others : List (List ℕ)) where
 pub matrices_carry_spans : MatricesCarrySpans
 matrices_carry_spans p width m rows others some are are' are'' each =
     Carries-from_rows p width some m others
-    (subst (λ (l : List ℕ). InSpan p width others l) (sym (combine-zeros p width width m some are)) (InSpan-zeros p width others some are''))
+    (subst (λ (l : List ℕ). InSpan p width others l) (sym (combine-zeros p width width m some are))
+    (InSpan-zeros p width others some are''))
     rows are' each

@@ -1,5 +1,6 @@
 -- How a matrix is kept: its rows, each with the prime. A row times a matrix is summed row by row.
-use Rattle.std.proofs.Common.{◌≡◌, ℕ, zero, suc, ◌+◌, ◌<◌, ◌≤◌, List, [], ◌∷◌, ◌++◌, length, get_or, take, replicate, refl, ap, ap₂, sym, ◌∙◌, subst, arith}
+use Rattle.std.proofs.Common.{◌≡◌, ℕ, zero, suc, ◌+◌, ◌<◌, ◌≤◌, List, [], ◌∷◌, ◌++◌, length, get_or, take, replicate, refl, ap, ap₂, sym}
+use Rattle.std.proofs.Common.{◌∙◌, subst, arith}
 use Rattle.std.proofs.Math.ListN.{set, length-set}
 use Rattle.std.proofs.lemmas.List.{get_or-map, take_more, take_all, length-map, length-take-le, length-replicate}
 use Rattle.pq_base.specs.Elementary.{zeros}
@@ -21,7 +22,8 @@ module _ (p width : ℕ) where
   AreKept-at (r ∷ rows) zero d h kept = record { prime = kept.0; row = kept.1 }
   AreKept-at (r ∷ rows) (suc i) d h kept = AreKept-at rows i d (omega arith) kept.2
 
-  pub HoldsMatrix-at : (rows : List PrimeRow) (i : ℕ) (r : PrimeRow) → i < width → HoldsMatrix p width rows → r ≡ get_or rows i r → IsKept p width r
+  pub HoldsMatrix-at : (rows : List PrimeRow) (i : ℕ) (r : PrimeRow) → i < width → HoldsMatrix p width rows → r ≡ get_or rows i r
+      → IsKept p width r
   HoldsMatrix-at rows i r h holds e =
       let count = holds.count in
       subst (λ (s : PrimeRow). IsKept p width s) (sym e) (AreKept-at rows i r (omega arith) holds.kept)
@@ -39,7 +41,8 @@ module _ (p width : ℕ) where
   AreKept-replicate zero r is = tt
   AreKept-replicate (suc n) r is = (is.prime, is.row, AreKept-replicate n r is)
 
-  pub HoldsMatrix-set : (rows : List PrimeRow) (i : ℕ) (r : PrimeRow) → IsKept p width r → HoldsMatrix p width rows → HoldsMatrix p width (set rows i r)
+  pub HoldsMatrix-set : (rows : List PrimeRow) (i : ℕ) (r : PrimeRow) → IsKept p width r → HoldsMatrix p width rows
+      → HoldsMatrix p width (set rows i r)
   HoldsMatrix-set rows i r is holds = record { count = length-set rows i r ∙ holds.count; kept = AreKept-set rows i r is holds.kept }
 
   -- the rows of a new matrix
@@ -95,14 +98,16 @@ module _ (p width : ℕ) (some : 0 < p) (rows : List PrimeRow) (holds : HoldsMat
       let wide = row.count in
       let long : length (entries_of rows) ≡ width = length-map rows (λ (r : PrimeRow). r.entries) ∙ holds.count in
       let here : IsRow p width (get_or rows i d).entries = (AreKept-at p width rows i d (omega arith) holds.kept).row in
-      let is : get_or (entries_of rows) i [] ≡ (get_or rows i d).entries = get_or-map (λ (r : PrimeRow). r.entries) rows i d [] (omega arith) in
+      let is : get_or (entries_of rows) i [] ≡ (get_or rows i d).entries =
+      get_or-map (λ (r : PrimeRow). r.entries) rows i d [] (omega arith) in
       ap₂ (combine p width) (take_more x i 0 (omega arith))
       (take_more (entries_of rows) i [] (omega arith) ∙ ap (λ (l : List ℕ). take i (entries_of rows) ++ l ∷ []) is)
       ∙ combine-push p width (get_or x i 0) (take i x) (get_or rows i d).entries (take i (entries_of rows)) some
       (length-take-le i x (omega arith) ∙ sym (length-take-le i (entries_of rows) (omega arith))) here
       (AreRows-take p width (entries_of rows) i (AreRows-kept p width rows holds.kept))
 
-  pub first_multiples-same : (i : ℕ) → i < width → get_or x i 0 ≡ 0 → first_multiples p width rows x (i + 1) ≡ first_multiples p width rows x i
+  pub first_multiples-same : (i : ℕ) → i < width → get_or x i 0 ≡ 0
+      → first_multiples p width rows x (i + 1) ≡ first_multiples p width rows x i
   first_multiples-same i h none =
       let count = holds.count in
       let d : PrimeRow = record { prime = p; entries = [] } in

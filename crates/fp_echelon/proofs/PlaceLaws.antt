@@ -1,5 +1,6 @@
 -- The first slot with a pivot holds the row of the basis with this pivot, and there is one exactly where there is such a row.
-use Rattle.std.proofs.Common.{◌≡◌, ◌≢◌, ◌↔◌, ℕ, zero, suc, ◌+◌, ◌<◌, ◌≤◌, Bool, true, false, cond, IsTrue, IsSome, is_some, Option, Some, None, IfSome, IfNone, List, [], ◌∷◌, length, get_or, eqb, inl, inr, refl, ap, sym, ◌∙◌, arith, eq-eqb, ne_eqb}
+use Rattle.std.proofs.Common.{◌≡◌, ◌≢◌, ◌↔◌, ℕ, zero, suc, ◌+◌, ◌<◌, ◌≤◌, Bool, true, false, cond, IsTrue, IsSome, is_some, Option, Some}
+use Rattle.std.proofs.Common.{None, IfSome, IfNone, List, [], ◌∷◌, length, get_or, eqb, inl, inr, refl, ap, sym, ◌∙◌, arith, eq-eqb, ne_eqb}
 use Rattle.fp_echelon.specs.Reduced.{BasisRow, IsPivot, at_pivot}
 use Rattle.fp_echelon.specs.Slots.{Slot, seen, all_seen, pivot_at, IsPlaceOf}
 
@@ -14,11 +15,13 @@ IsPlaceOf-tail c s slots i place =
     let within = place.within in
     record { within = omega arith; pivot = place.pivot; first = λ k h. place.first (suc k) (omega arith) }
 
-pub at_pivot-place : (c n : ℕ) (slots : List Slot) (i : ℕ) (d : Slot) → IsPlaceOf c slots i → at_pivot c (all_seen n slots) ≡ seen n (get_or slots i d)
+pub at_pivot-place : (c n : ℕ) (slots : List Slot) (i : ℕ) (d : Slot) → IsPlaceOf c slots i
+    → at_pivot c (all_seen n slots) ≡ seen n (get_or slots i d)
 at_pivot-place c n [] i d place = let within = place.within in absurd (omega arith)
 at_pivot-place c n (s ∷ slots) zero d place = at_pivot-head c (seen n s) (all_seen n slots) place.pivot
 at_pivot-place c n (s ∷ slots) (suc i) d place =
-    at_pivot-tail c (seen n s) (all_seen n slots) (place.first 0 (omega arith)) ∙ at_pivot-place c n slots i d (IsPlaceOf-tail c s slots i place)
+    at_pivot-tail c (seen n s) (all_seen n slots) (place.first 0 (omega arith))
+    ∙ at_pivot-place c n slots i d (IsPlaceOf-tail c s slots i place)
 
 pub IsPivot-place : (c n : ℕ) (slots : List Slot) (i : ℕ) → IsPlaceOf c slots i → IsPivot c (all_seen n slots)
 IsPivot-place c n [] i place = let within = place.within in absurd (omega arith)

@@ -1,6 +1,7 @@
 -- The reduction by a reduced basis is a linear map: it keeps the rows that are 0 at every pivot, sums and multiples, and a
 -- row that is 0 after some column stays 0 after it.
-use Rattle.std.proofs.Common.{◌≡◌, ℕ, zero, suc, ◌+◌, ◌*◌, ◌%◌, ◌-◌, ◌<◌, ◌≤◌, List, [], ◌∷◌, length, ⊎_elim, refl, ap, ap₂, sym, ◌∙◌, subst, arith, mod-eq_of_lt, mul_comm}
+use Rattle.std.proofs.Common.{◌≡◌, ℕ, zero, suc, ◌+◌, ◌*◌, ◌%◌, ◌-◌, ◌<◌, ◌≤◌, List, [], ◌∷◌, length, ⊎_elim, refl, ap, ap₂, sym, ◌∙◌}
+use Rattle.std.proofs.Common.{subst, arith, mod-eq_of_lt, mul_comm}
 use Rattle.std.proofs.Math.Nat.{mul-zero, zero-mul}
 use Rattle.std.proofs.lemmas.Bool.{cases_lt}
 use Rattle.pq_base.specs.Elementary.{zeros}
@@ -14,12 +15,14 @@ use Rattle.fp_echelon.specs.Reduced.{BasisRow, rows_of, ZeroAtPivots, IsReduced,
 use Rattle.fp_echelon.specs.Reduction.{negative, cleared, reduce_by}
 use Rattle.fp_echelon.proofs.SpanLaws.{InSpan-add_rows, InSpan-scale_row}
 use Rattle.fp_echelon.proofs.SpanDifferences.{InSpan-self}
-use Rattle.fp_echelon.proofs.ReductionLaws.{negative-zero, AreRows-reduced, at_column-add_scaled, IsRow-cleared, IsRow-reduce_by, IsRepresentative-reduce_by}
+use Rattle.fp_echelon.proofs.ReductionLaws.{negative-zero, AreRows-reduced, at_column-add_scaled, IsRow-cleared, IsRow-reduce_by}
+use Rattle.fp_echelon.proofs.ReductionLaws.{IsRepresentative-reduce_by}
 use Rattle.fp_echelon.proofs.PivotLaws.{representative_is}
 use Rattle.fp_echelon.proofs.ClearedLaws.{ZeroAtPivots-scale_row}
 
 module _ (p width : ℕ) (some : 1 < p) where
-  pub reduce_by-fixed : (bs : List BasisRow) (x : List ℕ) → IsReduced p width bs → IsRow p width x → ZeroAtPivots x bs → reduce_by p bs x ≡ x
+  pub reduce_by-fixed : (bs : List BasisRow) (x : List ℕ) → IsReduced p width bs → IsRow p width x → ZeroAtPivots x bs
+      → reduce_by p bs x ≡ x
   reduce_by-fixed bs x reduced row none =
       sym (representative_is p width some bs x x reduced row (record {
         fits = row;
@@ -53,8 +56,10 @@ module _ (p width : ℕ) (some : 1 < p) where
       (record {
         fits = IsRow-add_rows p width (reduce_by p bs x) (reduce_by p bs y) (omega arith) r.fits s.fits;
         zero = ZeroAtPivots-add_rows (reduce_by p bs x) (reduce_by p bs y) bs r.fits s.fits r.zero s.zero;
-        span = subst (λ (l : List ℕ). InSpan p width (rows_of bs) l) (sym (difference-add_rows_swap (reduce_by p bs x) (reduce_by p bs y) x y))
-            (InSpan-add_rows p width (rows_of bs) (difference p (reduce_by p bs x) x) (difference p (reduce_by p bs y) y) (omega arith) r.span s.span);
+        span = subst (λ (l : List ℕ). InSpan p width (rows_of bs) l)
+            (sym (difference-add_rows_swap (reduce_by p bs x) (reduce_by p bs y) x y))
+            (InSpan-add_rows p width (rows_of bs) (difference p (reduce_by p bs x) x) (difference p (reduce_by p bs y) y)
+            (omega arith) r.span s.span);
       }))
 
   difference-scale_row : (k : ℕ) (a x : List ℕ) → difference p (scale_row p k a) (scale_row p k x) ≡ scale_row p k (difference p a x)

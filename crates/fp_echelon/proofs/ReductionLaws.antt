@@ -1,5 +1,6 @@
 -- The reduction of a row by a reduced basis is 0 at every pivot, and differs from the row by a row of the span.
-use Rattle.std.proofs.Common.{◌≡◌, ◌↔◌, ℕ, zero, suc, ◌+◌, ◌*◌, ◌%◌, ◌-◌, ◌<◌, ◌≤◌, List, [], ◌∷◌, length, refl, ap, ap₂, sym, ◌∙◌, subst, arith, mod-eq_of_lt}
+use Rattle.std.proofs.Common.{◌≡◌, ◌↔◌, ℕ, zero, suc, ◌+◌, ◌*◌, ◌%◌, ◌-◌, ◌<◌, ◌≤◌, List, [], ◌∷◌, length, refl, ap, ap₂, sym, ◌∙◌, subst}
+use Rattle.std.proofs.Common.{arith, mod-eq_of_lt}
 use Rattle.std.proofs.Math.Nat.{add-mod-mod, mul-mod_right}
 use Rattle.pq_base.specs.Table.{AllBelow}
 use Rattle.pq_base.specs.Elementary.{zeros}
@@ -11,7 +12,8 @@ use Rattle.fp_rows.specs.Differences.{difference}
 use Rattle.fp_echelon.specs.Span.{combine, AreRows, InSpan, EachInSpan}
 use Rattle.fp_echelon.specs.Reduced.{BasisRow, rows_of, ZeroAt, ZeroAtPivots, IsPivotRow, AreApart, IsReduced, IsRepresentative}
 use Rattle.fp_echelon.specs.Reduction.{negative, cleared, reduce_by}
-use Rattle.fp_echelon.proofs.SpanLaws.{IsRow-combine, IsRow-InSpan, InSpan-zeros, InSpan-scale_row, InSpan-cons, InSpan-head, combine-scale_row}
+use Rattle.fp_echelon.proofs.SpanLaws.{IsRow-combine, IsRow-InSpan, InSpan-zeros, InSpan-scale_row, InSpan-cons, InSpan-head}
+use Rattle.fp_echelon.proofs.SpanLaws.{combine-scale_row}
 use Rattle.fp_rows.proofs.DifferenceLaws.{IsRow-difference, add_rows-difference, equal_from_difference}
 use Rattle.fp_echelon.proofs.SpanDifferences.{InSpan-self, InSpan-through, InSpan-turned, InSpan-shifted, InSpan-difference}
 
@@ -70,7 +72,8 @@ module _ (p width : ℕ) (some : 1 < p) where
         (InSpan-scale_row p width k rows b (omega arith) s)
 
   -- every pivot
-  pub IsRow-reduce_by : (bs : List BasisRow) (x : List ℕ) → AreRows p width (rows_of bs) → IsRow p width x → IsRow p width (reduce_by p bs x)
+  pub IsRow-reduce_by : (bs : List BasisRow) (x : List ℕ) → AreRows p width (rows_of bs) → IsRow p width x
+      → IsRow p width (reduce_by p bs x)
   IsRow-reduce_by [] x are row = row
   IsRow-reduce_by (b ∷ bs) x are row =
       IsRow-reduce_by bs (cleared p b.pivot b.row x) are.1 (IsRow-cleared b.row x are.0 row b.pivot)
@@ -82,7 +85,8 @@ module _ (p width : ℕ) (some : 1 < p) where
       at_column-reduce_by bs (cleared p b.pivot b.row x) d are.1 (IsRow-cleared b.row x are.0 row b.pivot) none.1
       ∙ at_column-cleared_other b.row x are.0 row b.pivot d none.0
 
-  pub ZeroAtPivots-reduce_by : (bs : List BasisRow) (x : List ℕ) → IsReduced p width bs → IsRow p width x → ZeroAtPivots (reduce_by p bs x) bs
+  pub ZeroAtPivots-reduce_by : (bs : List BasisRow) (x : List ℕ) → IsReduced p width bs → IsRow p width x
+      → ZeroAtPivots (reduce_by p bs x) bs
   ZeroAtPivots-reduce_by [] x reduced row = tt
   ZeroAtPivots-reduce_by (b ∷ bs) x reduced row =
       let row' = IsRow-cleared b.row x reduced.0.fits row b.pivot in (

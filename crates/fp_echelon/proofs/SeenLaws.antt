@@ -1,5 +1,6 @@
 -- The steps of an insertion on slots are the steps on the rows of the basis that are seen in them.
-use Rattle.std.proofs.Common.{◌≡◌, ℕ, zero, suc, ◌+◌, ◌-◌, ◌<◌, ◌≤◌, List, [], ◌∷◌, ◌++◌, length, take, drop, map, get_or, refl, ap, ap₂, sym, ◌∙◌, subst, arith, add-one, append_assoc}
+use Rattle.std.proofs.Common.{◌≡◌, ℕ, zero, suc, ◌+◌, ◌-◌, ◌<◌, ◌≤◌, List, [], ◌∷◌, ◌++◌, length, take, drop, map, get_or, refl, ap, ap₂}
+use Rattle.std.proofs.Common.{sym, ◌∙◌, subst, arith, add-one, append_assoc}
 use Rattle.std.proofs.Math.ListN.{set}
 use Rattle.std.proofs.lemmas.List.{take_more_set, take_at, length-replicate, length_push}
 use Rattle.pq_base.specs.Elementary.{zeros}
@@ -8,7 +9,8 @@ use Rattle.fp_rows.specs.Row.{at_column}
 use Rattle.fp_echelon.specs.Reduced.{BasisRow}
 use Rattle.fp_echelon.specs.Reduction.{negative}
 use Rattle.fp_echelon.proofs.InsertionSteps.{started, extended, clear_by, clear_by_each, clear_each, scaled, new_row, inserted}
-use Rattle.fp_echelon.specs.Slots.{Slot, IsSlot, AreSlots, HaveRoom, seen, all_seen, all_added, add_front, scale_front, plus_slot, cleared_slot, cleared_by_each, scaled_slot, placed_slot, started_slot}
+use Rattle.fp_echelon.specs.Slots.{Slot, IsSlot, AreSlots, HaveRoom, seen, all_seen, all_added, add_front, scale_front, plus_slot}
+use Rattle.fp_echelon.specs.Slots.{cleared_slot, cleared_by_each, scaled_slot, placed_slot, started_slot}
 use Rattle.fp_echelon.proofs.SlotLaws.{take-add_front, take-scale_front, IsSlot-cleared_slot}
 
 module _ (p width : ℕ) (some : 0 < p) where
@@ -22,7 +24,8 @@ module _ (p width : ℕ) (some : 0 < p) where
 
   pub seen-scaled_slot : (n c k : ℕ) (s : Slot) → IsSlot p width n s → seen n (scaled_slot n c k s) ≡ scaled p c k (seen n s)
   seen-scaled_slot n c k s slot =
-      ap (λ (l : List ℕ). record { pivot = c; row = scale_row s.prime k s.row; coefficients = l }) (take-scale_front n s.prime k s.coefficients slot.room)
+      ap (λ (l : List ℕ). record { pivot = c; row = scale_row s.prime k s.row; coefficients = l })
+      (take-scale_front n s.prime k s.coefficients slot.room)
       ∙ ap (λ (q : ℕ). scaled q c k (seen n s)) slot.prime
 
   pub seen-cleared_by_each : (n : ℕ) (slots : List Slot) (s : Slot) → AreSlots p width n slots → IsSlot p width n s
@@ -45,7 +48,8 @@ seen-started_slot n x s =
     ∙ take_at (zeros n ++ 1 ∷ []) (drop (suc n) s.coefficients) (suc n)
     (length_push (zeros n) 1 ∙ ap (λ (m : ℕ). m + 1) (length-replicate {A = ℕ} n 0) ∙ add-one n))
 
-pub all_seen-placed : (n : ℕ) (slots : List Slot) → HaveRoom (suc n) slots → all_seen (suc n) (map (placed_slot n) slots) ≡ extended (all_seen n slots)
+pub all_seen-placed : (n : ℕ) (slots : List Slot) → HaveRoom (suc n) slots
+    → all_seen (suc n) (map (placed_slot n) slots) ≡ extended (all_seen n slots)
 all_seen-placed n [] room = refl
 all_seen-placed n (s ∷ slots) room =
     ap₂ (λ (l : List ℕ) (bs : List BasisRow). record { pivot = s.pivot; row = s.row; coefficients = l } ∷ bs)

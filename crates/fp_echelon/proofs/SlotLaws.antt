@@ -1,5 +1,6 @@
 -- Slots keep their rows' width and their room through each step of an insertion, and lists of slots through loops.
-use Rattle.std.proofs.Common.{◌≡◌, ◌≢◌, ℕ, zero, suc, ◌+◌, ◌-◌, ◌<◌, ◌≤◌, List, [], ◌∷◌, ◌++◌, length, take, drop, map, get_or, refl, ap, ap₂, sym, ◌∙◌, subst, arith, length-append}
+use Rattle.std.proofs.Common.{◌≡◌, ◌≢◌, ℕ, zero, suc, ◌+◌, ◌-◌, ◌<◌, ◌≤◌, List, [], ◌∷◌, ◌++◌, length, take, drop, map, get_or, refl, ap}
+use Rattle.std.proofs.Common.{ap₂, sym, ◌∙◌, subst, arith, length-append}
 use Rattle.std.proofs.Math.ListN.{set, length-set}
 use Rattle.std.proofs.lemmas.List.{length-take-le, take_at, length-replicate, length-drop, get_or_default, get_or-map}
 use Rattle.std.proofs.lemmas.List.Edits.{map_over_more}
@@ -11,7 +12,8 @@ use Rattle.fp_rows.specs.Row.{at_column}
 use Rattle.fp_rows.proofs.RowLaws.{IsRow-zeros, IsRow-scale_row, IsRow-add_scaled, length-add_scaled, length-scale_row}
 use Rattle.fp_rows.proofs.BelowLaws.{AllBelow-set, get_or-below_within}
 use Rattle.fp_echelon.specs.Reduction.{negative}
-use Rattle.fp_echelon.specs.Slots.{Slot, IsSlot, AreSlots, HasPivot, HavePivots, HaveRoom, add_front, scale_front, plus_slot, cleared_slot, cleared_by_each, scaled_slot, placed_slot, started_slot, grown_slot, new_slot, pivot_at}
+use Rattle.fp_echelon.specs.Slots.{Slot, IsSlot, AreSlots, HasPivot, HavePivots, HaveRoom, add_front, scale_front, plus_slot, cleared_slot}
+use Rattle.fp_echelon.specs.Slots.{cleared_by_each, scaled_slot, placed_slot, started_slot, grown_slot, new_slot, pivot_at}
 use Rattle.fp_echelon.proofs.EntryStorage.{AllBelow-add_front, AllBelow-scale_front, AllBelow-unit, AllBelow-grown}
 
 pub length-add_front : (n p k : ℕ) (xs ys : List ℕ) → n ≤ length xs → n ≤ length ys → length (add_front n p k xs ys) ≡ length xs
@@ -57,12 +59,14 @@ module _ (p width : ℕ) where
       let room = slot.room in
       record { prime = slot.prime; added = slot.added; row = slot.row; room = omega arith; below = slot.below }
 
-  pub AreSlots-at : (n : ℕ) (slots : List Slot) (i : ℕ) (d : Slot) → i < length slots → AreSlots p width n slots → IsSlot p width n (get_or slots i d)
+  pub AreSlots-at : (n : ℕ) (slots : List Slot) (i : ℕ) (d : Slot) → i < length slots → AreSlots p width n slots
+      → IsSlot p width n (get_or slots i d)
   AreSlots-at n [] i d h are = absurd (omega arith)
   AreSlots-at n (s ∷ slots) zero d h are = are.0
   AreSlots-at n (s ∷ slots) (suc i) d h are = AreSlots-at n slots i d (omega arith) are.1
 
-  pub AreSlots-append : (n : ℕ) (slots more : List Slot) → AreSlots p width n slots → AreSlots p width n more → AreSlots p width n (slots ++ more)
+  pub AreSlots-append : (n : ℕ) (slots more : List Slot) → AreSlots p width n slots → AreSlots p width n more
+      → AreSlots p width n (slots ++ more)
   AreSlots-append n [] more are are' = are'
   AreSlots-append n (s ∷ slots) more are are' = (are.0, AreSlots-append n slots more are.1 are')
 
@@ -85,7 +89,8 @@ module _ (p width : ℕ) where
   HaveRoom-slots n (s ∷ slots) are = (are.0.room, HaveRoom-slots n slots are.1)
 
 module _ (p width : ℕ) (some : 0 < p) where
-  pub IsSlot-plus_slot : (n m k : ℕ) (a s : Slot) → IsSlot p width n a → IsSlot p width n s → IsSlot p width m s → IsSlot p width m (plus_slot n k a s)
+  pub IsSlot-plus_slot : (n m k : ℕ) (a s : Slot) → IsSlot p width n a → IsSlot p width n s → IsSlot p width m s
+      → IsSlot p width m (plus_slot n k a s)
   IsSlot-plus_slot n m k a s slot slot' slot'' =
       let room = slot''.room in
       let row = IsRow-add_scaled p width k s.row a.row (omega arith) slot'.row slot.row in
@@ -98,7 +103,8 @@ module _ (p width : ℕ) (some : 0 < p) where
         below = subst (λ (q : ℕ). AllBelow p (add_front n q k s.coefficients a.coefficients)) (sym slot'.prime) below;
       }
 
-  pub IsSlot-cleared_slot : (n m : ℕ) (a s : Slot) → IsSlot p width n a → IsSlot p width n s → IsSlot p width m s → IsSlot p width m (cleared_slot n a s)
+  pub IsSlot-cleared_slot : (n m : ℕ) (a s : Slot) → IsSlot p width n a → IsSlot p width n s → IsSlot p width m s
+      → IsSlot p width m (cleared_slot n a s)
   IsSlot-cleared_slot n m a s slot slot' slot'' =
       IsSlot-plus_slot n m (negative s.prime (at_column s.row a.pivot)) a s slot slot' slot''
 
@@ -181,12 +187,14 @@ module _ (p width : ℕ) (some : 0 < p) where
   AreSlots-cleared n m a (s ∷ slots) slot are are' =
       (IsSlot-cleared_slot n m a s slot are.0 are'.0, AreSlots-cleared n m a slots slot are.1 are'.1)
 
-pub HaveRoom-at : (n : ℕ) (slots : List Slot) (i : ℕ) (d : Slot) → i < length slots → HaveRoom n slots → n ≤ length (get_or slots i d).coefficients
+pub HaveRoom-at : (n : ℕ) (slots : List Slot) (i : ℕ) (d : Slot) → i < length slots → HaveRoom n slots
+    → n ≤ length (get_or slots i d).coefficients
 HaveRoom-at n [] i d h room = absurd (omega arith)
 HaveRoom-at n (s ∷ slots) zero d h room = room.0
 HaveRoom-at n (s ∷ slots) (suc i) d h room = HaveRoom-at n slots i d (omega arith) room.1
 
-pub HavePivots-at : (width : ℕ) (slots : List Slot) (i : ℕ) (d : Slot) → i < length slots → HavePivots width slots → HasPivot width (get_or slots i d)
+pub HavePivots-at : (width : ℕ) (slots : List Slot) (i : ℕ) (d : Slot) → i < length slots → HavePivots width slots
+    → HasPivot width (get_or slots i d)
 HavePivots-at width [] i d h pivots = absurd (omega arith)
 HavePivots-at width (s ∷ slots) zero d h pivots = pivots.0
 HavePivots-at width (s ∷ slots) (suc i) d h pivots = HavePivots-at width slots i d (omega arith) pivots.1
@@ -209,7 +217,8 @@ pub mapped_more : (f : Slot → Slot) (xs ys : List Slot) (i : ℕ) (d t : Slot)
 mapped_more f xs ys i d t h long is e =
     ap (set ys i) e ∙ map_over_more f xs ys i (get_or ys i d) h is (get_or_default ys i d (get_or ys i d) (omega arith))
 
-pub IsSlot-mapped : (p width n : ℕ) (f : Slot → Slot) (xs ys : List Slot) (i : ℕ) (d : Slot) → i < length xs → ys ≡ map f (take i xs) ++ drop i xs
+pub IsSlot-mapped : (p width n : ℕ) (f : Slot → Slot) (xs ys : List Slot) (i : ℕ) (d : Slot) → i < length xs
+    → ys ≡ map f (take i xs) ++ drop i xs
     → AreSlots p width n xs → IsSlot p width n (get_or ys i d)
 IsSlot-mapped p width n f xs ys i d h is are =
     subst (λ (s : Slot). IsSlot p width n s) (sym (ap (λ (l : List Slot). get_or l i d) is ∙ get_or-mapped f xs i d h))
@@ -227,18 +236,21 @@ prime_from_pivot p width n s a slot pivot =
 pub pivot_at-is : (slots : List Slot) (i : ℕ) (d : Slot) → i < length slots → pivot_at slots i ≡ (get_or slots i d).pivot
 pivot_at-is slots i d h = get_or-map (λ s. s.pivot) slots i d 0 h
 
-pub AreSlots-own : (p q width long n m : ℕ) (slots : List Slot) → p ≡ q → width ≡ long → n ≡ m → AreSlots p width n slots → AreSlots q long m slots
+pub AreSlots-own : (p q width long n m : ℕ) (slots : List Slot) → p ≡ q → width ≡ long → n ≡ m → AreSlots p width n slots
+    → AreSlots q long m slots
 AreSlots-own p q width long n m slots e e' e'' are =
     subst (λ (o : ℕ). AreSlots q long o slots) e''
     (subst (λ (w : ℕ). AreSlots q w n slots) e' (subst (λ (r : ℕ). AreSlots r width n slots) e are))
 
 -- the two parts of a list of slots
-pub IsSlot-later : (p width n i : ℕ) (slots later : List Slot) (d : Slot) → i < length slots → later ≡ drop i slots → AreSlots p width n slots
+pub IsSlot-later : (p width n i : ℕ) (slots later : List Slot) (d : Slot) → i < length slots → later ≡ drop i slots
+    → AreSlots p width n slots
     → IsSlot p width n (get_or later 0 d)
 IsSlot-later p width n i slots later d h e are =
     subst (λ (l : List Slot). IsSlot p width n (get_or l 0 d)) (sym e)
     (AreSlots-at p width n (drop i slots) 0 d (omega (arith, length-drop i slots)) (AreSlots-drop p width n i slots are))
 
-pub AreSlots-older : (p width n i : ℕ) (slots older : List Slot) → older ≡ take i slots → AreSlots p width n slots → AreSlots p width n older
+pub AreSlots-older : (p width n i : ℕ) (slots older : List Slot) → older ≡ take i slots → AreSlots p width n slots
+    → AreSlots p width n older
 AreSlots-older p width n i slots older e are =
     subst (λ (l : List Slot). AreSlots p width n l) (sym e) (AreSlots-take p width n i slots are)

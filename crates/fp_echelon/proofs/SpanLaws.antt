@@ -1,13 +1,17 @@
 -- Combinations are linear in their coefficients, so a span holds the zero row, sums, multiples, each of its rows, and
 -- whatever is spanned by rows that it holds.
-use Rattle.std.proofs.Common.{◌≡◌, ℕ, zero, suc, ◌+◌, ◌*◌, ◌%◌, ◌-◌, ◌<◌, ◌≤◌, List, [], ◌∷◌, ◌++◌, get_or, length, refl, ap, ap₂, sym, ◌∙◌, subst, arith, mod-eq_of_lt, length-append}
+use Rattle.std.proofs.Common.{◌≡◌, ℕ, zero, suc, ◌+◌, ◌*◌, ◌%◌, ◌-◌, ◌<◌, ◌≤◌, List, [], ◌∷◌, ◌++◌, get_or, length, refl, ap, ap₂, sym, ◌∙◌}
+use Rattle.std.proofs.Common.{subst, arith, mod-eq_of_lt, length-append}
 use Rattle.pq_base.specs.Table.{AllBelow}
 use Rattle.pq_base.specs.Elementary.{zeros}
 use Rattle.fp_rows.specs.Rows.{IsRow, add_rows, scale_row, add_scaled}
-use Rattle.fp_rows.proofs.RowLaws.{IsRow-zeros, IsRow-add_rows, IsRow-scale_row, add_rows-zeros, zeros-add_rows, add_rows_comm, add_rows_assoc, add_rows_swap, scale_row-add_rows, scale_row-scale_row, scale_row-add, scale_row-mod, scale_row-one, scale_row-zero, scale_row-zeros}
+use Rattle.fp_rows.proofs.RowLaws.{IsRow-zeros, IsRow-add_rows, IsRow-scale_row, add_rows-zeros, zeros-add_rows, add_rows_comm}
+use Rattle.fp_rows.proofs.RowLaws.{add_rows_assoc, add_rows_swap, scale_row-add_rows, scale_row-scale_row, scale_row-add, scale_row-mod}
+use Rattle.fp_rows.proofs.RowLaws.{scale_row-one, scale_row-zero, scale_row-zeros}
 use Rattle.fp_echelon.specs.Span.{combine, AreRows, InSpan, EachInSpan}
 
-pub IsRow-combine : (p width : ℕ) (cs : List ℕ) (rows : List (List ℕ)) → 0 < p → AreRows p width rows → IsRow p width (combine p width cs rows)
+pub IsRow-combine : (p width : ℕ) (cs : List ℕ) (rows : List (List ℕ)) → 0 < p → AreRows p width rows
+    → IsRow p width (combine p width cs rows)
 IsRow-combine p width [] rows h are = IsRow-zeros p width h
 IsRow-combine p width (c ∷ cs) [] h are = IsRow-zeros p width h
 IsRow-combine p width (c ∷ cs) (r ∷ rows) h are =
@@ -61,7 +65,8 @@ combine-push p width c (d ∷ cs) r (s ∷ rows) h e row are =
     ∙ sym (add_rows_assoc p (scale_row p d s) (combine p width cs rows) (scale_row p c r))
 
 -- spans
-pub IsRow-InSpan : (p width : ℕ) (rows : List (List ℕ)) (x : List ℕ) → 0 < p → AreRows p width rows → InSpan p width rows x → IsRow p width x
+pub IsRow-InSpan : (p width : ℕ) (rows : List (List ℕ)) (x : List ℕ) → 0 < p → AreRows p width rows → InSpan p width rows x
+    → IsRow p width x
 IsRow-InSpan p width rows x h are s =
     subst (λ (l : List ℕ). IsRow p width l) s.sum (IsRow-combine p width s.coefficients rows h are)
 
@@ -80,7 +85,8 @@ InSpan-add_rows p width rows x y h s t = record {
   sum = combine-add_rows p width s.coefficients t.coefficients rows h (s.fits.count ∙ sym t.fits.count) ∙ ap₂ (add_rows p) s.sum t.sum;
 }
 
-pub InSpan-scale_row : (p width k : ℕ) (rows : List (List ℕ)) (x : List ℕ) → 0 < p → InSpan p width rows x → InSpan p width rows (scale_row p k x)
+pub InSpan-scale_row : (p width k : ℕ) (rows : List (List ℕ)) (x : List ℕ) → 0 < p → InSpan p width rows x
+    → InSpan p width rows (scale_row p k x)
 InSpan-scale_row p width k rows x h s = record {
   coefficients = scale_row p k s.coefficients;
   fits = IsRow-scale_row p (length rows) k s.coefficients h s.fits;
@@ -99,7 +105,8 @@ InSpan-cons p width r rows x h row are s = record {
       ∙ s.sum;
 }
 
-pub InSpan-head : (p width : ℕ) (r : List ℕ) (rows : List (List ℕ)) → 1 < p → IsRow p width r → AreRows p width rows → InSpan p width (r ∷ rows) r
+pub InSpan-head : (p width : ℕ) (r : List ℕ) (rows : List (List ℕ)) → 1 < p → IsRow p width r → AreRows p width rows
+    → InSpan p width (r ∷ rows) r
 InSpan-head p width r rows h row are = record {
   coefficients = 1 ∷ zeros (length rows);
   fits = record {
@@ -121,8 +128,10 @@ EachInSpan-cons p width r rows (x ∷ xs) h row are each =
 -- rows are in their own span
 pub EachInSpan-own : (p width : ℕ) (rows : List (List ℕ)) → 1 < p → AreRows p width rows → EachInSpan p width rows rows
 EachInSpan-own p width [] h are = tt
-EachInSpan-own p width (r ∷ rows) h are =
-    (InSpan-head p width r rows h are.0 are.1, EachInSpan-cons p width r rows rows (omega arith) are.0 are.1 (EachInSpan-own p width rows h are.1))
+EachInSpan-own p width (r ∷ rows) h are = (
+  InSpan-head p width r rows h are.0 are.1,
+  EachInSpan-cons p width r rows rows (omega arith) are.0 are.1 (EachInSpan-own p width rows h are.1),
+)
 
 -- a span holds what rows that it holds span
 combine-InSpan : (p width : ℕ) (rows : List (List ℕ)) (cs : List ℕ) (xs : List (List ℕ)) → 0 < p → AreRows p width rows
@@ -145,7 +154,8 @@ EachInSpan-trans p width rows xs (y ∷ ys) h are each each' =
     (InSpan-trans p width rows xs y h are each each'.0, EachInSpan-trans p width rows xs ys h are each each'.1)
 
 -- one more row at the end
-pub AreRows-push : (p width : ℕ) (rows : List (List ℕ)) (r : List ℕ) → AreRows p width rows → IsRow p width r → AreRows p width (rows ++ r ∷ [])
+pub AreRows-push : (p width : ℕ) (rows : List (List ℕ)) (r : List ℕ) → AreRows p width rows → IsRow p width r
+    → AreRows p width (rows ++ r ∷ [])
 AreRows-push p width [] r are row = (row, tt)
 AreRows-push p width (s ∷ rows) r are row = (are.0, AreRows-push p width rows r are.1 row)
 
@@ -154,19 +164,22 @@ pub EachInSpan-front : (p width : ℕ) (rows : List (List ℕ)) (r : List ℕ) �
 EachInSpan-front p width [] r h are row = tt
 EachInSpan-front p width (s ∷ rows) r h are row = (
   InSpan-head p width s (rows ++ r ∷ []) h are.0 (AreRows-push p width rows r are.1 row),
-  EachInSpan-cons p width s (rows ++ r ∷ []) rows (omega arith) are.0 (AreRows-push p width rows r are.1 row) (EachInSpan-front p width rows r h are.1 row),
+  EachInSpan-cons p width s (rows ++ r ∷ []) rows (omega arith) are.0 (AreRows-push p width rows r are.1 row)
+      (EachInSpan-front p width rows r h are.1 row),
 )
 
 pub InSpan-push : (p width : ℕ) (rows : List (List ℕ)) (r x : List ℕ) → 1 < p → AreRows p width rows → IsRow p width r
     → InSpan p width rows x → InSpan p width (rows ++ r ∷ []) x
 InSpan-push p width rows r x h are row s =
-    InSpan-trans p width (rows ++ r ∷ []) rows x (omega arith) (AreRows-push p width rows r are row) (EachInSpan-front p width rows r h are row) s
+    InSpan-trans p width (rows ++ r ∷ []) rows x (omega arith) (AreRows-push p width rows r are row)
+    (EachInSpan-front p width rows r h are row) s
 
 pub InSpan-last : (p width : ℕ) (rows : List (List ℕ)) (r : List ℕ) → 1 < p → AreRows p width rows → IsRow p width r
     → InSpan p width (rows ++ r ∷ []) r
 InSpan-last p width [] r h are row = InSpan-head p width r [] h row tt
 InSpan-last p width (s ∷ rows) r h are row =
-    InSpan-cons p width s (rows ++ r ∷ []) r (omega arith) are.0 (AreRows-push p width rows r are.1 row) (InSpan-last p width rows r h are.1 row)
+    InSpan-cons p width s (rows ++ r ∷ []) r (omega arith) are.0 (AreRows-push p width rows r are.1 row)
+    (InSpan-last p width rows r h are.1 row)
 
 pub EachInSpan-push : (p width : ℕ) (rows xs : List (List ℕ)) (x : List ℕ) → EachInSpan p width rows xs → InSpan p width rows x
     → EachInSpan p width rows (xs ++ x ∷ [])

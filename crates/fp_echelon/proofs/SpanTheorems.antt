@@ -4,7 +4,8 @@ use Rattle.pq_base.specs.Elementary.{zeros}
 use Rattle.fp_rows.specs.Rows.{IsRow}
 use Rattle.fp_rows.specs.Row.{IsZeroRow}
 use Rattle.fp_rows.proofs.EntryLaws.{IsZeroRow-is_zeros, zeros-IsZeroRow}
-use Rattle.fp_echelon.specs.Laws.{RepresentativesAreUnique, RowsOfTheSpanReduceToZero, ReducedBasesOfOneSpanAreEqual, EverySpanHasAReducedBasis}
+use Rattle.fp_echelon.specs.Laws.{RepresentativesAreUnique, RowsOfTheSpanReduceToZero, ReducedBasesOfOneSpanAreEqual}
+use Rattle.fp_echelon.specs.Laws.{EverySpanHasAReducedBasis}
 use Rattle.fp_echelon.proofs.PivotLaws.{IsRepresentative-unique, InSpan-from_representative, representative-zero}
 use Rattle.fp_echelon.proofs.UniqueBasis.{same_rows}
 use Rattle.fp_echelon.proofs.EveryBasis.{reduced_basis_of}

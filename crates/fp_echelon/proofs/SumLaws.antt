@@ -1,10 +1,12 @@
 -- Each step of an insertion keeps that a row of the basis is the sum of the added rows that its coefficients say.
-use Rattle.std.proofs.Common.{◌≡◌, ℕ, zero, suc, ◌+◌, ◌*◌, ◌-◌, ◌<◌, ◌≤◌, List, [], ◌∷◌, ◌++◌, length, refl, ap, ap₂, sym, ◌∙◌, subst, arith, length-append}
+use Rattle.std.proofs.Common.{◌≡◌, ℕ, zero, suc, ◌+◌, ◌*◌, ◌-◌, ◌<◌, ◌≤◌, List, [], ◌∷◌, ◌++◌, length, refl, ap, ap₂, sym, ◌∙◌, subst}
+use Rattle.std.proofs.Common.{arith, length-append}
 use Rattle.pq_base.specs.Table.{AllBelow}
 use Rattle.pq_base.specs.Elementary.{zeros}
 use Rattle.fp_rows.specs.Rows.{IsRow, add_rows, scale_row, add_scaled}
 use Rattle.fp_rows.specs.Row.{at_column}
-use Rattle.fp_rows.proofs.RowLaws.{IsRow-zeros, IsRow-scale_row, IsRow-add_scaled, length-scale_row, scale_row-zero, scale_row-one, zeros-add_rows, add_rows_comm}
+use Rattle.fp_rows.proofs.RowLaws.{IsRow-zeros, IsRow-scale_row, IsRow-add_scaled, length-scale_row, scale_row-zero, scale_row-one}
+use Rattle.fp_rows.proofs.RowLaws.{zeros-add_rows, add_rows_comm}
 use Rattle.fp_echelon.specs.Span.{combine, AreRows, InSpan, EachInSpan}
 use Rattle.fp_echelon.specs.Reduced.{BasisRow, rows_of}
 use Rattle.fp_echelon.specs.Reduction.{negative, cleared, reduce_by}
@@ -89,7 +91,8 @@ module _ (p width : ℕ) (some : 1 < p) where
                   combine-push p width 0 b.coefficients x added (omega arith) s.fits.count row are
                   ∙ ap (add_rows p (combine p width b.coefficients added)) (scale_row-zero p x (omega arith) ∙ ap zeros row.count)
                   ∙ add_rows_comm p (combine p width b.coefficients added) (zeros width)
-                  ∙ zeros-add_rows p width (combine p width b.coefficients added) (IsRow-combine p width b.coefficients added (omega arith) are)
+                  ∙ zeros-add_rows p width (combine p width b.coefficients added)
+                  (IsRow-combine p width b.coefficients added (omega arith) are)
                   ∙ s.sum;
             },
             AreSums-extended bs sums.1,
@@ -108,7 +111,8 @@ module _ (p width : ℕ) (some : 1 < p) where
           }
 
   -- the rows of the basis after an insertion are the sums that their coefficients say
-  module _ (added : List (List ℕ)) (x : List ℕ) (are : AreRows p width added) (more : AreRows p width (added ++ x ∷ [])) (row : IsRow p width x)
+  module _ (added : List (List ℕ)) (x : List ℕ) (are : AreRows p width added) (more : AreRows p width (added ++ x ∷ []))
+      (row : IsRow p width x)
       (c k : ℕ) (bs : List BasisRow) (sums : AreSums p width added bs) where
     pub IsSum-new_row : IsSum p width (added ++ x ∷ []) (new_row p c k x (length added) bs)
     IsSum-new_row =
@@ -118,6 +122,7 @@ module _ (p width : ℕ) (some : 1 < p) where
 
     pub AreSums-inserted : AreSums p width (added ++ x ∷ []) (inserted p c k x (length added) bs)
     AreSums-inserted =
-        AreSums-push (added ++ x ∷ []) more (clear_each p (new_row p c k x (length added) bs) (extended bs)) (new_row p c k x (length added) bs)
+        AreSums-push (added ++ x ∷ []) more (clear_each p (new_row p c k x (length added) bs) (extended bs))
+        (new_row p c k x (length added) bs)
         (AreSums-clear_each (added ++ x ∷ []) more (new_row p c k x (length added) bs) (extended bs) IsSum-new_row
         (AreSums-extended added are x row bs sums)) IsSum-new_row

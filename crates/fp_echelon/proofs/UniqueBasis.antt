@@ -1,6 +1,8 @@
 -- Reduced bases of one span are equal: a row of the span has its last nonzero column at a pivot, and the row with this pivot
 -- is the one row of the span that has 1 there and 0 at the other pivots.
-use Rattle.std.proofs.Common.{◌≡◌, ◌≢◌, ◌↔◌, ◌⊎◌, ℕ, zero, suc, ◌+◌, ◌*◌, ◌%◌, ◌-◌, ◌<◌, ◌≤◌, Bool, true, false, cond, eqb, List, [], ◌∷◌, length, inl, inr, ⊎_elim, refl, ap, ap₂, sym, ◌∙◌, subst, arith, mod-eq_of_lt, eq-eqb, ne_eqb, mul-one, mul-zero, zero-add}
+use Rattle.std.proofs.Common.{◌≡◌, ◌≢◌, ◌↔◌, ◌⊎◌, ℕ, zero, suc, ◌+◌, ◌*◌, ◌%◌, ◌-◌, ◌<◌, ◌≤◌, Bool, true, false, cond, eqb, List, [], ◌∷◌}
+use Rattle.std.proofs.Common.{length, inl, inr, ⊎_elim, refl, ap, ap₂, sym, ◌∙◌, subst, arith, mod-eq_of_lt, eq-eqb, ne_eqb, mul-one}
+use Rattle.std.proofs.Common.{mul-zero, zero-add}
 use Rattle.std.proofs.lemmas.Bool.{cases_eq, cases_lt}
 use Rattle.pq_base.specs.Elementary.{zeros}
 use Rattle.fp_rows.specs.Rows.{IsRow, add_rows, scale_row, add_scaled}
@@ -109,7 +111,8 @@ module _ (p width : ℕ) (some : 1 < p) where
       (cases_lt b.pivot c)
 
   -- the last nonzero column of a row of the span is a pivot
-  pub last_is_pivot : (bs : List BasisRow) (x : List ℕ) (c : ℕ) → IsReduced p width bs → InSpan p width (rows_of bs) x → IsLastNonzero x c → IsPivot c bs
+  pub last_is_pivot : (bs : List BasisRow) (x : List ℕ) (c : ℕ) → IsReduced p width bs → InSpan p width (rows_of bs) x → IsLastNonzero x c
+      → IsPivot c bs
   last_is_pivot bs x c reduced s last =
       ⊎_elim (λ h. h)
       (λ none. absurd (last.nonzero

@@ -47,4 +47,5 @@ pub record ReducedBasisOf (p width : ℕ) (rows : List (List ℕ)) : Type 0 wher
 
 -- every list of rows has one
 abbrev pub EverySpanHasAReducedBasis : Type 0
-EverySpanHasAReducedBasis = (p width : ℕ) (rows : List (List ℕ)) → 2 ≤ p → HasInverses p → AreRows p width rows → ReducedBasisOf p width rows
+EverySpanHasAReducedBasis =
+    (p width : ℕ) (rows : List (List ℕ)) → 2 ≤ p → HasInverses p → AreRows p width rows → ReducedBasisOf p width rows

@@ -17,5 +17,6 @@ MatricesAreLinear = (m : PrimeMatrix) → IsMatrix m → IsLinearMap m.prime m.w
 
 -- a matrix carries a span into another where it carries each of its rows there
 abbrev pub MatricesCarrySpans : Type 0
-MatricesCarrySpans = (p width : ℕ) (m rows others : List (List ℕ)) → 0 < p → AreRows p width m → AreRows p width rows → AreRows p width others
+MatricesCarrySpans =
+    (p width : ℕ) (m rows others : List (List ℕ)) → 0 < p → AreRows p width m → AreRows p width rows → AreRows p width others
     → EachInSpan p width others (map (times_matrix p width m) rows) → Carries p width m rows others

@@ -1,6 +1,7 @@
 -- How a basis is kept: a slot for each row that was added, in the order of the insertions, then slots for rows to come.
 -- The coefficients of a slot may be more than the rows that were added: the first count.
-use Rattle.std.specs.Prelude.{◌≡◌, ◌≢◌, ◌≤◌, ◌<◌, ◌+◌, ◌-◌, ◌*◌, ◌%◌, ℕ, suc, List, [], ◌∷◌, ◌++◌, length, take, drop, get_or, slice_set, map, replicate}
+use Rattle.std.specs.Prelude.{◌≡◌, ◌≢◌, ◌≤◌, ◌<◌, ◌+◌, ◌-◌, ◌*◌, ◌%◌, ℕ, suc, List, [], ◌∷◌, ◌++◌, length, take, drop, get_or, slice_set}
+use Rattle.std.specs.Prelude.{map, replicate}
 use Rattle.pq_base.specs.Table.{AllBelow}
 use Rattle.pq_base.specs.Elementary.{zeros}
 use Rattle.fp_rows.specs.Rows.{IsRow, scale_row, add_scaled}

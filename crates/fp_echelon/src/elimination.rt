@@ -5,7 +5,9 @@ ghost use Rattle.pq_base.specs.Prime.{prime_value};
 ghost use Rattle.fp_rows.specs.Rows.{IsRow};
 ghost use Rattle.fp_rows.specs.Row.{IsColumn};
 ghost use Rattle.fp_echelon.specs.Reduction.{reduce_by};
-ghost use Rattle.fp_echelon.specs.Slots.{IsSlot, AreSlots, HasPivot, HavePivots, HaveRoom, cleared_slot, cleared_by_each, placed_slot, reduced_slots, joined_slots, no_slot, all_seen, pivot_at, IsPlaceOf, IsJoined, IsLeft, grown_slot, new_slot, grown_front, IsGrown, AreGrown};
+ghost use Rattle.fp_echelon.specs.Slots.{IsSlot, AreSlots, HasPivot, HavePivots, HaveRoom, cleared_slot, cleared_by_each, placed_slot};
+ghost use Rattle.fp_echelon.specs.Slots.{reduced_slots, joined_slots, no_slot, all_seen, pivot_at, IsPlaceOf, IsJoined, IsLeft, grown_slot};
+ghost use Rattle.fp_echelon.specs.Slots.{new_slot, grown_front, IsGrown, AreGrown};
 
 use crate::entry::Entry;
 use fp_rows::Row;

@@ -6,7 +6,8 @@ ghost use Rattle.pq_base.specs.Prime.{prime_value};
 ghost use Rattle.pq_base.specs.Elementary.{zeros};
 ghost use Rattle.fp_rows.specs.Row.{IsColumn};
 ghost use Rattle.fp_echelon.specs.Reduction.{cleared};
-ghost use Rattle.fp_echelon.specs.Slots.{IsSlot, HasPivot, add_front, scale_front, plus_slot, cleared_slot, scaled_slot, placed_slot, started_slot, grown_slot, new_slot};
+ghost use Rattle.fp_echelon.specs.Slots.{IsSlot, HasPivot, add_front, scale_front, plus_slot, cleared_slot, scaled_slot, placed_slot};
+ghost use Rattle.fp_echelon.specs.Slots.{started_slot, grown_slot, new_slot};
 
 use fp_rows::{Row, kernel};
 use pq_base::{NoMemory, Prime};

@@ -1,6 +1,7 @@
 //! Laws of spans, reduced bases and matrices: each function does nothing, and its clause is a theorem.
 
-ghost use Rattle.fp_echelon.specs.Laws.{BasesSpanTheAddedRows, RepresentativesAreUnique, RowsOfTheSpanReduceToZero, ReducedBasesOfOneSpanAreEqual, EverySpanHasAReducedBasis};
+ghost use Rattle.fp_echelon.specs.Laws.{BasesSpanTheAddedRows, RepresentativesAreUnique, RowsOfTheSpanReduceToZero};
+ghost use Rattle.fp_echelon.specs.Laws.{ReducedBasesOfOneSpanAreEqual, EverySpanHasAReducedBasis};
 ghost use Rattle.fp_echelon.specs.MatrixLaws.{MatricesAreLinear, MatricesCarrySpans};
 
 /// A basis spans exactly what the rows that were added to it span.

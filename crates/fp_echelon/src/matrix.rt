@@ -92,7 +92,11 @@ fn zero_rows(alloc: Global, prime: Prime, width: u16) -> Result<Vec<Row>, NoMemo
 fn add_multiples(rows: &[Row], row: &Row, out: &mut Row)
     requires rows { HoldsMatrix row.now.prime (length row.now.entries) rows.now }
     requires zero { out.old ≡ record { prime = row.now.prime; entries = zeros (length row.now.entries) } }
-    ensures { out.new ≡ record { prime = row.now.prime; entries = times_matrix row.now.prime (length row.now.entries) (entries_of rows.now) row.now.entries } }
+    ensures { out.new
+        ≡ record {
+          prime = row.now.prime;
+          entries = times_matrix row.now.prime (length row.now.entries) (entries_of rows.now) row.now.entries;
+        } }
 {
     for place in 0..row.width() {
         let k = row.get(place + 1);

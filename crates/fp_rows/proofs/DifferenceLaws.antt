@@ -3,7 +3,8 @@ use Rattle.std.proofs.Common.{◌≡◌, ℕ, zero, suc, ◌+◌, ◌*◌, ◌%�
 use Rattle.std.proofs.Math.Nat.{mul-add-mod_self_left, mul-mod_right}
 use Rattle.pq_base.specs.Elementary.{zeros}
 use Rattle.fp_rows.specs.Rows.{IsRow, add_rows, scale_row}
-use Rattle.fp_rows.proofs.RowLaws.{IsRow-add_rows, IsRow-scale_row, zeros-add_rows, add_rows_comm, add_rows_assoc, scale_row-add_rows, scale_row-scale_row, scale_row-mod, scale_row-one, scale_row_cancels}
+use Rattle.fp_rows.proofs.RowLaws.{IsRow-add_rows, IsRow-scale_row, zeros-add_rows, add_rows_comm, add_rows_assoc, scale_row-add_rows}
+use Rattle.fp_rows.proofs.RowLaws.{scale_row-scale_row, scale_row-mod, scale_row-one, scale_row_cancels}
 use Rattle.fp_rows.specs.Differences.{difference}
 
 -- (p - 1)² is 1 modulo p

@@ -1,5 +1,6 @@
 -- The entries of sums and multiples of rows, place by place and column by column.
-use Rattle.std.proofs.Common.{◌≡◌, ℕ, zero, suc, ◌+◌, ◌-◌, ◌*◌, ◌%◌, ◌<◌, List, [], ◌∷◌, length, get_or, refl, ap, ap₂, sym, ◌∙◌, arith, mod-eq_of_lt}
+use Rattle.std.proofs.Common.{◌≡◌, ℕ, zero, suc, ◌+◌, ◌-◌, ◌*◌, ◌%◌, ◌<◌, List, [], ◌∷◌, length, get_or, refl, ap, ap₂, sym, ◌∙◌, arith}
+use Rattle.std.proofs.Common.{mod-eq_of_lt}
 use Rattle.std.proofs.Math.Nat.{mul-zero, add-mod-mod}
 use Rattle.pq_base.specs.Table.{AllBelow}
 use Rattle.pq_base.specs.Elementary.{zeros}

@@ -1,6 +1,8 @@
 -- Vectors, lane by lane: a subtraction that is undone where it wraps takes remainders, a table of multiples is looked up,
 -- and sums and products of residues fit a lane.
-use Rattle.std.proofs.Common.{◌≡◌, ℕ, zero, suc, ◌+◌, ◌-◌, ◌*◌, ◌/◌, ◌%◌, ◌^◌, ◌<◌, ◌≤◌, ◌↔◌, Bool, true, false, not, cond, eqb, ltb, IsTrue, ⊎_elim, List, [], ◌∷◌, map, length, get_or, replicate, refl, sym, ap, ap₂, subst, ◌∙◌, arith, w8, mod-eq_of_lt, eqb-true, ltb-true, ltb-false, eq-eqb, mul-le-mul_right}
+use Rattle.std.proofs.Common.{◌≡◌, ℕ, zero, suc, ◌+◌, ◌-◌, ◌*◌, ◌/◌, ◌%◌, ◌^◌, ◌<◌, ◌≤◌, ◌↔◌, Bool, true, false, not, cond, eqb, ltb}
+use Rattle.std.proofs.Common.{IsTrue, ⊎_elim, List, [], ◌∷◌, map, length, get_or, replicate, refl, sym, ap, ap₂, subst, ◌∙◌, arith, w8}
+use Rattle.std.proofs.Common.{mod-eq_of_lt, eqb-true, ltb-true, ltb-false, eq-eqb, mul-le-mul_right}
 use Rattle.std.specs.List.{range_with_len}
 use Rattle.std.proofs.Math.Nat.{add-mul-mod_self_right, add-mod_left, mod-add-div}
 use Rattle.std.proofs.lemmas.Bool.{cases_lt, eqb-false}

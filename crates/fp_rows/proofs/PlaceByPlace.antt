@@ -1,6 +1,7 @@
 -- What the loops over entries do at one place: a sum of products of residues fits a byte, four subtractions take its
 -- remainder, and a list that is written place by place is the front of the new one and the rest of the old.
-use Rattle.std.proofs.Common.{◌≡◌, ℕ, zero, suc, ◌+◌, ◌*◌, ◌%◌, ◌<◌, ◌≤◌, ⊎_elim, List, [], ◌∷◌, ◌++◌, length, get_or, take, drop, refl, ap, ap₂, sym, ◌∙◌, arith, mul-le-mul_right}
+use Rattle.std.proofs.Common.{◌≡◌, ℕ, zero, suc, ◌+◌, ◌*◌, ◌%◌, ◌<◌, ◌≤◌, ⊎_elim, List, [], ◌∷◌, ◌++◌, length, get_or, take, drop, refl, ap}
+use Rattle.std.proofs.Common.{ap₂, sym, ◌∙◌, arith, mul-le-mul_right}
 use Rattle.std.proofs.Math.Nat.{add-mul-mod_self_right}
 use Rattle.std.proofs.Math.ListN.{set}
 use Rattle.std.proofs.lemmas.Bool.{cases_lt}

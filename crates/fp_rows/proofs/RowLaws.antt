@@ -1,7 +1,9 @@
 -- Rows of residues of one width are a space over the residues: they add as a commutative group in which p copies of a row
 -- are zero, and scaling distributes over sums of rows and of factors. Each law holds of all lists unless it says more.
-use Rattle.std.proofs.Common.{◌≡◌, ℕ, zero, suc, ◌+◌, ◌-◌, ◌*◌, ◌%◌, ◌<◌, List, [], ◌∷◌, length, refl, ap, ap₂, sym, ◌∙◌, arith, add_comm, add_assoc, add-zero, one-mul, mul_assoc, add-mul, mul-add, mod-eq_of_lt}
-use Rattle.std.proofs.Math.Nat.{add-mod-mod, mod-add-mod, zero-mul, mul-zero, mul-mod_right, zero-mod, mod_self, mul-suc, mul_comm, add-mul-mod_self_right}
+use Rattle.std.proofs.Common.{◌≡◌, ℕ, zero, suc, ◌+◌, ◌-◌, ◌*◌, ◌%◌, ◌<◌, List, [], ◌∷◌, length, refl, ap, ap₂, sym, ◌∙◌, arith, add_comm}
+use Rattle.std.proofs.Common.{add_assoc, add-zero, one-mul, mul_assoc, add-mul, mul-add, mod-eq_of_lt}
+use Rattle.std.proofs.Math.Nat.{add-mod-mod, mod-add-mod, zero-mul, mul-zero, mul-mod_right, zero-mod, mod_self, mul-suc, mul_comm}
+use Rattle.std.proofs.Math.Nat.{add-mul-mod_self_right}
 use Rattle.std.proofs.lemmas.List.{length-replicate}
 use Rattle.std.proofs.lemmas.Nat.{mod_below, mul-mod_second, mul-mod_first}
 use Rattle.pq_base.specs.Table.{AllBelow}
@@ -74,7 +76,8 @@ pub add_rows_swap : (p : ℕ) (a b c d : List ℕ)
     → add_rows p (add_rows p a b) (add_rows p c d) ≡ add_rows p (add_rows p a c) (add_rows p b d)
 add_rows_swap p a b c d =
     add_rows_assoc p a b (add_rows p c d)
-    ∙ ap (λ (r : List ℕ). add_rows p a r) (sym (add_rows_assoc p b c d) ∙ ap (λ (r : List ℕ). add_rows p r d) (add_rows_comm p b c) ∙ add_rows_assoc p c b d)
+    ∙ ap (λ (r : List ℕ). add_rows p a r)
+    (sym (add_rows_assoc p b c d) ∙ ap (λ (r : List ℕ). add_rows p r d) (add_rows_comm p b c) ∙ add_rows_assoc p c b d)
     ∙ sym (add_rows_assoc p a c (add_rows p b d))
 
 -- multiples

@@ -10,7 +10,8 @@ length-inv (k ∷ u) = simp (length-append, length-inv u) (omega arith)
 
 pub length-copies : (u : List ℤ) (n : ℕ) → length (copies u n) ≡ n * length u
 length-copies u zero = sym (zero-mul (length u))
-length-copies u (suc n) = length-append u (copies u n) ∙ ap (λ (m : ℕ). length u + m) (length-copies u n) ∙ omega (arith, suc-mul n (length u))
+length-copies u (suc n) =
+    length-append u (copies u n) ∙ ap (λ (m : ℕ). length u + m) (length-copies u n) ∙ omega (arith, suc-mul n (length u))
 
 pub length-pow : (u : List ℤ) (n : ℤ) → length (pow u n) ≡ unsigned_abs n * length u
 length-pow u (pos n) = length-copies u n

@@ -1,5 +1,6 @@
 -- Taking the letters of a word one after the other, each against the last one that is kept, reduces the word.
-use Rattle.std.proofs.Common.{◌≡◌, ◌≢◌, ℕ, ◌+◌, ◌<◌, ◌≤◌, ℤ, pos, neg_ℤ, List, [], ◌∷◌, ◌++◌, get_or, drop, length, inl, inr, ap, sym, ◌∙◌, subst, append_assoc, arith}
+use Rattle.std.proofs.Common.{◌≡◌, ◌≢◌, ℕ, ◌+◌, ◌<◌, ◌≤◌, ℤ, pos, neg_ℤ, List, [], ◌∷◌, ◌++◌, get_or, drop, length, inl, inr, ap, sym, ◌∙◌}
+use Rattle.std.proofs.Common.{subst, append_assoc, arith}
 use Rattle.std.proofs.lemmas.List.{length-append, drop_more}
 use Rattle.std.proofs.Math.IntN.{neg_ℤ-neg_ℤ}
 use Rattle.pq_base.specs.SignedWord.{IsLetter, HasLetters}
@@ -52,7 +53,8 @@ pub record IsReducing (w u : List ℤ) (i : ℕ) : Type 0 where
   pub letters : AreLetters u
   pub count : length u ≤ i
 
-pub IsReducing-takes : (w u : List ℤ) (i : ℕ) (v : List ℤ) → AreLetters w → i < length w → IsReducing w u i → TakesLetter u (get_or w i (pos 0)) v → IsReducing w v (i + 1)
+pub IsReducing-takes : (w u : List ℤ) (i : ℕ) (v : List ℤ) → AreLetters w → i < length w → IsReducing w u i
+    → TakesLetter u (get_or w i (pos 0)) v → IsReducing w v (i + 1)
 IsReducing-takes w u i v letters below before taken =
     let n = length-takes u (get_or w i (pos 0)) v taken in
     let left : ReducesTo w (u ++ get_or w i (pos 0) ∷ drop (i + 1) w) =
@@ -60,6 +62,7 @@ IsReducing-takes w u i v letters below before taken =
     record {
       reduced = IsReduced-takes u (get_or w i (pos 0)) v before.reduced taken;
       reached = ReducesTo-takes w u (get_or w i (pos 0)) v (drop (i + 1) w) left taken;
-      letters = HasLetters-takes 2147483647 u (get_or w i (pos 0)) v before.letters (IsLetter-get_or 2147483647 w i (pos 0) letters below) taken;
+      letters =
+          HasLetters-takes 2147483647 u (get_or w i (pos 0)) v before.letters (IsLetter-get_or 2147483647 w i (pos 0) letters below) taken;
       count = let m = before.count in omega arith;
     }

@@ -4,7 +4,8 @@ use Rattle.lpres_reader.specs.declared.fault.Stop.{Stop}
 use Rattle.lpres_reader.specs.declared.fault.Stop.TheVariants.{Fault, NoMemory}
 use Rattle.lpres_reader.specs.declared.fault.Kind.TheVariants.{Syntax}
 use Rattle.lpres_reader.specs.declared.token.Symbol.{Symbol}
-use Rattle.lpres_reader.specs.declared.token.Symbol.TheVariants.{Arrow, Star, Caret, Minus, Equals, Comma, OpenRound, CloseRound, OpenSquare, CloseSquare}
+use Rattle.lpres_reader.specs.declared.token.Symbol.TheVariants.{Arrow, Star, Caret, Minus, Equals, Comma, OpenRound, CloseRound}
+use Rattle.lpres_reader.specs.declared.token.Symbol.TheVariants.{OpenSquare, CloseSquare}
 use Rattle.lpres_reader.specs.declared.syntax.Stage.{Stage}
 use Rattle.lpres_reader.specs.declared.syntax.Stage.TheVariants as at
 use Rattle.lpres_reader.specs.declared.brackets.Bracket.{Bracket}

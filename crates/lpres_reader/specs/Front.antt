@@ -4,7 +4,8 @@ use Rattle.std.specs.List.{prefix_len}
 use Rattle.std.specs.Char.{is_ascii_digit}
 use Rattle.pq_base.specs.Name.{is_letter, is_name_byte}
 use Rattle.lpres_reader.specs.declared.token.Symbol.{Symbol}
-use Rattle.lpres_reader.specs.declared.token.Symbol.TheVariants.{Arrow, Star, Caret, Minus, Equals, Comma, OpenRound, CloseRound, OpenSquare, CloseSquare}
+use Rattle.lpres_reader.specs.declared.token.Symbol.TheVariants.{Arrow, Star, Caret, Minus, Equals, Comma, OpenRound, CloseRound}
+use Rattle.lpres_reader.specs.declared.token.Symbol.TheVariants.{OpenSquare, CloseSquare}
 use Rattle.lpres_reader.specs.declared.token.Token as read
 use Rattle.lpres_reader.specs.declared.token.Token.TheVariants as read_variants
 use Rattle.lpres_reader.specs.Lines.{is_blank}
@@ -24,7 +25,8 @@ pub data Front : Type 0 where
 
 -- the symbols of one byte, but for the minus
 abbrev pub symbols : List (ℕ × Symbol)
-symbols = (42, Star) ∷ (94, Caret) ∷ (61, Equals) ∷ (44, Comma) ∷ (40, OpenRound) ∷ (41, CloseRound) ∷ (91, OpenSquare) ∷ (93, CloseSquare) ∷ []
+symbols =
+    (42, Star) ∷ (94, Caret) ∷ (61, Equals) ∷ (44, Comma) ∷ (40, OpenRound) ∷ (41, CloseRound) ∷ (91, OpenSquare) ∷ (93, CloseSquare) ∷ []
 
 abbrev pub symbol_among : List (ℕ × Symbol) → ℕ → Option Symbol
 symbol_among [] b = None

@@ -10,7 +10,8 @@ use Rattle.lpres_reader.specs.Words.{letter_limit, ReadsWord}
 pub data ReadsNames : List Token → List (List ℕ) → Type 0 where
   last_name : (n : List ℕ) → ReadsNames (name n ∷ []) (n ∷ [])
   next_name : {ts : List Token} {ns : List (List ℕ)} (n : List ℕ) → ReadsNames ts ns → ReadsNames (name n ∷ ts) (n ∷ ns)
-  next_name_after_comma : {ts : List Token} {ns : List (List ℕ)} (n : List ℕ) → ReadsNames ts ns → ReadsNames (name n ∷ symbol Comma ∷ ts) (n ∷ ns)
+  next_name_after_comma : {ts : List Token} {ns : List (List ℕ)} (n : List ℕ) → ReadsNames ts ns
+      → ReadsNames (name n ∷ symbol Comma ∷ ts) (n ∷ ns)
 
 -- a word, or an equation of two: `u = v` is `u * v^-1`
 pub data ReadsRelator (names : List (List ℕ)) : List Token → List ℤ → Type 0 where
@@ -58,7 +59,8 @@ pub data Item : Type 0 where
 
 pub data ReadsItem (names : List (List ℕ)) : List Token → Item → Type 0 where
   fixed_line : {ts : List Token} {ws : List (List ℤ)} → ReadsRelators names ts ws → ReadsItem names (name (codes "fixed") ∷ ts) (fixed ws)
-  iterated_line : {ts : List Token} {ws : List (List ℤ)} → ReadsRelators names ts ws → ReadsItem names (name (codes "iterated") ∷ ts) (iterated ws)
+  iterated_line : {ts : List Token} {ws : List (List ℤ)} → ReadsRelators names ts ws
+      → ReadsItem names (name (codes "iterated") ∷ ts) (iterated ws)
   endo_line : {ts : List Token} {f : List (List ℤ)} (arrows : List Mapping)
       → ReadsArrows names ts arrows → GivesEach (length names) arrows f → ReadsItem names (name (codes "endo") ∷ ts) (endo f)
 

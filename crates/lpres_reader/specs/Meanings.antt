@@ -6,7 +6,8 @@ use Rattle.lpres_reader.specs.declared.fault.Which.TheVariants as which
 use Rattle.lpres_reader.specs.declared.gathered.Arrow.{Arrow}
 use Rattle.lpres_reader.specs.Gatherings.{Gathering}
 use Rattle.lpres_reader.specs.Limits.{letters_in, total_letters}
-use Rattle.lpres_reader.specs.Trees.{RelatorTree, ArrowTree, ItemTree, relators, arrows, Sort, fixed_sort, iterated_sort, place_of, known_place, word_meaning, relator_meaning}
+use Rattle.lpres_reader.specs.Trees.{RelatorTree, ArrowTree, ItemTree, relators, arrows, Sort, fixed_sort, iterated_sort, place_of}
+use Rattle.lpres_reader.specs.Trees.{known_place, word_meaning, relator_meaning}
 use Rattle.lpres_reader.specs.Trials.{relators_of}
 
 abbrev pub arrow_value : List (List ℕ) → ArrowTree → Arrow

@@ -1,9 +1,12 @@
 -- Reading tokens from the left, one at a time, for the reader's own functions and proofs: what the tokens of a line so
 -- far make, and what the next token makes of it. What trees a line has is said by their tokens, in Trees.
 use Rattle.std.specs.Prelude.{ℕ, List, [], ◌∷◌, ◌++◌, codes, bytes_eq, if◌then◌else◌, Option, Some, None, option_and_then}
-use Rattle.lpres_reader.specs.declared.token.Symbol.TheVariants.{Arrow, Star, Caret, Minus, Equals, Comma, OpenRound, CloseRound, OpenSquare, CloseSquare}
+use Rattle.lpres_reader.specs.declared.token.Symbol.TheVariants.{Arrow, Star, Caret, Minus, Equals, Comma, OpenRound, CloseRound}
+use Rattle.lpres_reader.specs.declared.token.Symbol.TheVariants.{OpenSquare, CloseSquare}
 use Rattle.lpres_reader.specs.Tokens.{Token, name, number, symbol}
-use Rattle.lpres_reader.specs.Trees.{plus, minus, WordTree, alone, times, FactorTree, one, unit, to_power, conjugated, UnitTree, named, round, square, EntriesTree, two, and_one, RelatorTree, word, equation, ArrowTree, Sort, fixed_sort, iterated_sort, ItemTree, relators, arrows}
+use Rattle.lpres_reader.specs.Trees.{plus, minus, WordTree, alone, times, FactorTree, one, unit, to_power, conjugated, UnitTree, named}
+use Rattle.lpres_reader.specs.Trees.{round, square, EntriesTree, two, and_one, RelatorTree, word, equation, ArrowTree, Sort, fixed_sort}
+use Rattle.lpres_reader.specs.Trees.{iterated_sort, ItemTree, relators, arrows}
 
 -- where a unit stands: as a factor behind `w *`, or at the front of its word, or as an exponent behind such a factor
 pub data Place : Type 0 where
@@ -69,7 +72,8 @@ square_end a p (several e) = Some (behind_unit a p (square e))
 -- a token behind a word, which ends it
 abbrev pub word_step : Around → WordTree → Token → Option State
 word_step (outside (in_relators s rs None)) w (symbol Equals) = Some (at_factor (outside (in_relators s rs (Some w))) None)
-word_step (outside (in_relators s rs left)) w (symbol Comma) = Some (at_factor (outside (in_relators s (rs ++ relator_of left w ∷ []) None)) None)
+word_step (outside (in_relators s rs left)) w (symbol Comma) =
+    Some (at_factor (outside (in_relators s (rs ++ relator_of left w ∷ []) None)) None)
 word_step (outside (in_arrows qs n)) w (symbol Comma) = Some (at_name (qs ++ record { from = n; to = w } ∷ []))
 word_step (in_round p a) w (symbol CloseRound) = Some (behind_unit a p (round w))
 word_step (in_square p e a) w (symbol Comma) = Some (at_factor (in_square p (entered e w) a) None)

@@ -37,7 +37,8 @@ GivesLine M line result = (i : ItemTree) → ReadsTokens line (item_tokens i) �
 
 -- what is meant behind the first token of a line
 abbrev pub first_arrow : ℕ → ℕ → Result Value Stop
-first_arrow number total = if leb number 16 then Ok (at_arrows (nothing_gathered which.Endos 0 total)) else Err (Fault (Limit which.Endos number))
+first_arrow number total =
+    if leb number 16 then Ok (at_arrows (nothing_gathered which.Endos 0 total)) else Err (Fault (Limit which.Endos number))
 
 abbrev pub first_value : LPresentation → List ℕ → Result Value Stop
 first_value M n =

@@ -7,7 +7,8 @@ use Rattle.lpres_reader.specs.Words.{ReadsWord}
 use Rattle.lpres_reader.specs.Items.{Item, ReadsItem}
 use Rattle.lpres_reader.specs.Limits.{IsWithinLimits}
 use Rattle.lpres_reader.specs.Reads.{Reads}
-use Rattle.lpres_reader.specs.Trees.{WordTree, word_tokens, word_meaning, ItemTree, item_tokens, body_tokens, item_meaning, AreKnown, GivesAll}
+use Rattle.lpres_reader.specs.Trees.{WordTree, word_tokens, word_meaning, ItemTree, item_tokens, body_tokens, item_meaning, AreKnown}
+use Rattle.lpres_reader.specs.Trees.{GivesAll}
 use Rattle.lpres_reader.specs.Trials.{AreKept, word_trials, item_trials, added}
 use Rattle.lpres_reader.specs.Faults.{Kind, FirstFault}
 use Rattle.lpres_reader.specs.Verdicts.{text_verdict}
@@ -30,7 +31,8 @@ pub record MeansWord (names : List (List ℕ)) (ts : List Token) (w : List ℤ) 
   pub means : w ≡ word_meaning names tree
 
 abbrev pub WordsReadAsTheirTrees : Type 0
-WordsReadAsTheirTrees = (names : List (List ℕ)) → AreDistinct names → (ts : List Token) (w : List ℤ) → ReadsWord names ts w ↔ MeansWord names ts w
+WordsReadAsTheirTrees =
+    (names : List (List ℕ)) → AreDistinct names → (ts : List Token) (w : List ℤ) → ReadsWord names ts w ↔ MeansWord names ts w
 
 -- such a tree of a line behind the presentation M, whose arrows give all images
 pub record MeansItem (M : LPresentation) (ts : List Token) (item : Item) : Type 0 where
@@ -69,4 +71,5 @@ CanonicalTextsReadBack = (L : LPresentation) → All IsName L.names → IsLPrese
 
 -- and the reader may be called on it
 abbrev pub CanonicalTextsAreShort : Type 0
-CanonicalTextsAreShort = (L : LPresentation) → All IsName L.names → IsLPresentation L → IsWithinLimits L → length (canonical_text L) < 2 ^ 32 - 1
+CanonicalTextsAreShort =
+    (L : LPresentation) → All IsName L.names → IsLPresentation L → IsWithinLimits L → length (canonical_text L) < 2 ^ 32 - 1

@@ -5,7 +5,8 @@ use Rattle.std.specs.List.{list_all}
 use Rattle.std.specs.Char.{is_ascii_digit}
 use Rattle.pq_base.specs.Name.{is_name_byte, IsNameText}
 use Rattle.lpres_reader.specs.declared.token.Symbol.{Symbol}
-use Rattle.lpres_reader.specs.declared.token.Symbol.TheVariants.{Arrow, Star, Caret, Minus, Equals, Comma, OpenRound, CloseRound, OpenSquare, CloseSquare}
+use Rattle.lpres_reader.specs.declared.token.Symbol.TheVariants.{Arrow, Star, Caret, Minus, Equals, Comma, OpenRound, CloseRound}
+use Rattle.lpres_reader.specs.declared.token.Symbol.TheVariants.{OpenSquare, CloseSquare}
 use Rattle.lpres_reader.specs.Lines.{is_blank}
 
 -- the bytes of a symbol
@@ -48,7 +49,8 @@ pub data ReadsTokens : List ℕ → List Token → Type 0 where
   name_first : {line : List ℕ} {ts : List Token} (text rest : List ℕ)
       → line ≡ text ++ rest → IsNameText text → StopsBefore is_name_byte rest → ReadsTokens rest ts → ReadsTokens line (name text ∷ ts)
   number_first : {line : List ℕ} {ts : List Token} (text rest : List ℕ)
-      → line ≡ text ++ rest → IsNumberText text → StopsBefore is_ascii_digit rest → ReadsTokens rest ts → ReadsTokens line (number text ∷ ts)
+      → line ≡ text ++ rest → IsNumberText text → StopsBefore is_ascii_digit rest → ReadsTokens rest ts
+      → ReadsTokens line (number text ∷ ts)
   symbol_first : {line : List ℕ} {ts : List Token} (s : Symbol) (rest : List ℕ)
       → line ≡ symbol_bytes s ++ rest → ReadsTokens rest ts → ReadsTokens line (symbol s ∷ ts)
 

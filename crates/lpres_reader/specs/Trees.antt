@@ -1,10 +1,12 @@
 -- Syntax trees: how the tokens of a line hang together. A tree keeps every token but the commas between the names of a
 -- `generators` line, so it is spelled in one way. Names and exponents stand in it as they are written. A tree means a
 -- word over known names; names that are not known stand for the empty word.
-use Rattle.std.specs.Prelude.{◌≡◌, ◌<◌, ℕ, suc, ℤ, pos, neg_ℤ, List, [], ◌∷◌, ◌++◌, map, get_or, length, codes, position, bytes_eq, Option, Some, None}
+use Rattle.std.specs.Prelude.{◌≡◌, ◌<◌, ℕ, suc, ℤ, pos, neg_ℤ, List, [], ◌∷◌, ◌++◌, map, get_or, length, codes, position, bytes_eq, Option}
+use Rattle.std.specs.Prelude.{Some, None}
 use Rattle.std.specs.Str.Parse.{digits_value}
 use Rattle.pq_base.specs.SignedWord.{inv, pow, comm, conj}
-use Rattle.lpres_reader.specs.declared.token.Symbol.TheVariants.{Arrow, Star, Caret, Minus, Equals, Comma, OpenRound, CloseRound, OpenSquare, CloseSquare}
+use Rattle.lpres_reader.specs.declared.token.Symbol.TheVariants.{Arrow, Star, Caret, Minus, Equals, Comma, OpenRound, CloseRound}
+use Rattle.lpres_reader.specs.declared.token.Symbol.TheVariants.{OpenSquare, CloseSquare}
 use Rattle.lpres_reader.specs.Tokens.{Token, name, number, symbol}
 use Rattle.lpres_reader.specs.Items.{Mapping, GivesEach, Item, fixed, iterated, endo}
 

@@ -6,7 +6,10 @@ use Rattle.pq_base.specs.LPresentation.{LPresentation}
 use Rattle.lpres_reader.specs.Words.{letter_limit, exponent_limit}
 use Rattle.lpres_reader.specs.Items.{Item, fixed, iterated, endo}
 use Rattle.lpres_reader.specs.Limits.{total_letters}
-use Rattle.lpres_reader.specs.Trees.{WordTree, alone, times, FactorTree, one, unit, to_power, conjugated, UnitTree, named, round, square, EntriesTree, two, and_one, RelatorTree, word, equation, ArrowTree, Sort, fixed_sort, iterated_sort, ItemTree, relators, arrows, exponent_size, word_meaning, factor_meaning, entries_meaning, relator_meaning}
+use Rattle.lpres_reader.specs.Trees.{WordTree, alone, times, FactorTree, one, unit, to_power, conjugated, UnitTree, named, round, square}
+use Rattle.lpres_reader.specs.Trees.{EntriesTree, two, and_one, RelatorTree, word, equation, ArrowTree, Sort, fixed_sort, iterated_sort}
+use Rattle.lpres_reader.specs.Trees.{ItemTree, relators, arrows, exponent_size, word_meaning, factor_meaning, entries_meaning}
+use Rattle.lpres_reader.specs.Trees.{relator_meaning}
 
 -- what is limited
 pub data Which : Type 0 where
@@ -66,8 +69,10 @@ abbrev mutual
   pub factor_trials : List (List ℕ) → FactorTree → List Trial
   factor_trials names one = []
   factor_trials names (unit u) = unit_trials names u
-  factor_trials names (to_power f e) = factor_trials names f ++ (tried Exponent (exponent_size e) ∷ letters_tried (factor_meaning names (to_power f e)))
-  factor_trials names (conjugated f u) = factor_trials names f ++ (unit_trials names u ++ letters_tried (factor_meaning names (conjugated f u)))
+  factor_trials names (to_power f e) =
+      factor_trials names f ++ (tried Exponent (exponent_size e) ∷ letters_tried (factor_meaning names (to_power f e)))
+  factor_trials names (conjugated f u) =
+      factor_trials names f ++ (unit_trials names u ++ letters_tried (factor_meaning names (conjugated f u)))
 
   pub unit_trials : List (List ℕ) → UnitTree → List Trial
   unit_trials names (named n) = []
@@ -76,7 +81,8 @@ abbrev mutual
 
   pub entries_trials : List (List ℕ) → EntriesTree → List Trial
   entries_trials names (two u v) = word_trials names u ++ (word_trials names v ++ letters_tried (entries_meaning names (two u v)))
-  entries_trials names (and_one e v) = entries_trials names e ++ (word_trials names v ++ letters_tried (entries_meaning names (and_one e v)))
+  entries_trials names (and_one e v) =
+      entries_trials names e ++ (word_trials names v ++ letters_tried (entries_meaning names (and_one e v)))
 
 abbrev pub relator_trials : List (List ℕ) → RelatorTree → List Trial
 relator_trials names (word w) = word_trials names w
@@ -96,7 +102,8 @@ relators_trials names s count total (r ∷ rs) =
 abbrev pub arrows_trials : List (List ℕ) → ℕ → List ArrowTree → List Trial
 arrows_trials names total [] = []
 arrows_trials names total (q ∷ qs) =
-    word_trials names q.to ++ (tried Total (total + length (word_meaning names q.to)) ∷ arrows_trials names (total + length (word_meaning names q.to)) qs)
+    word_trials names q.to ++ (tried Total (total + length (word_meaning names q.to))
+    ∷ arrows_trials names (total + length (word_meaning names q.to)) qs)
 
 abbrev pub relators_of : LPresentation → Sort → List (List ℤ)
 relators_of M fixed_sort = M.fixed

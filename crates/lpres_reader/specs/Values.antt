@@ -1,6 +1,7 @@
 -- What a line means, token by token, as the reader takes it: each token gives what is meant so far or stops the line at a
 -- syntax fault or a limit. That this is what the trees of a line mean is proved.
-use Rattle.std.specs.Prelude.{◌≡◌, ◌≤◌, ℕ, ◌+◌, min, ltb, leb, Bool, true, false, ℤ, List, [], ◌∷◌, ◌++◌, length, codes, bytes_eq, if◌then◌else◌, Option, Some, None, Result, Ok, Err}
+use Rattle.std.specs.Prelude.{◌≡◌, ◌≤◌, ℕ, ◌+◌, min, ltb, leb, Bool, true, false, ℤ, List, [], ◌∷◌, ◌++◌, length, codes, bytes_eq}
+use Rattle.std.specs.Prelude.{if◌then◌else◌, Option, Some, None, Result, Ok, Err}
 use Rattle.pq_base.specs.SignedWord.{inv, pow, comm, conj}
 use Rattle.lpres_reader.specs.declared.fault.Stop.{Stop}
 use Rattle.lpres_reader.specs.declared.fault.Stop.TheVariants.{Fault, NoMemory}
@@ -47,7 +48,9 @@ abbrev pub told : ℕ → ℕ
 told size = min size 999999999999999999
 
 abbrev pub raised : List ℤ → trees.Exponent → Result (List ℤ) Stop
-raised base e = if ltb exponent_limit (exponent_size e) then Err (Fault (Limit Exponent (told (exponent_size e)))) else fits (pow base (exponent_value e))
+raised base e =
+    if ltb exponent_limit (exponent_size e) then Err (Fault (Limit Exponent (told (exponent_size e)))) else fits
+    (pow base (exponent_value e))
 
 abbrev pub signed : Bool → List ℕ → trees.Exponent
 signed true digits = trees.minus digits
@@ -63,12 +66,20 @@ more_letters total w = if leb (total + length w) 4194304 then Ok (total + length
 abbrev pub with_relator : Gathering → List ℤ → Result Gathering Stop
 with_relator g w =
     if leb (g.count + 1) 4096
-    then followed (more_letters g.total w) (λ total. Ok (record { which = g.which; count = g.count + 1; total = total; relators = g.relators ++ w ∷ []; arrows = g.arrows }))
+    then followed (more_letters g.total w)
+    (λ total. Ok (record { which = g.which; count = g.count + 1; total = total; relators = g.relators ++ w ∷ []; arrows = g.arrows }))
     else Err (Fault (Limit g.which (g.count + 1)))
 
 abbrev pub with_arrow : Gathering → ℕ → List ℤ → Result Gathering Stop
 with_arrow g from w =
-    followed (more_letters g.total w) (λ total. Ok (record { which = g.which; count = g.count; total = total; relators = g.relators; arrows = g.arrows ++ record { from = from; to = w } ∷ [] }))
+    followed (more_letters g.total w)
+    (λ total. Ok (record {
+      which = g.which;
+      count = g.count;
+      total = total;
+      relators = g.relators;
+      arrows = g.arrows ++ record { from = from; to = w } ∷ [];
+    }))
 
 abbrev pub value : Stage → Around → Value
 value stage around = record { stage = stage; around = around }
@@ -103,7 +114,8 @@ unit_step names a place (symbol s) = no_form
 
 abbrev pub relators_step : Option (List ℤ) → Gathering → List ℤ → Symbol → Result Value Stop
 relators_step None g w symbols.Equals = Ok (value (Before []) (around [] (Relators (Some w)) g))
-relators_step left g w symbols.Comma = followed (relator left w) (λ r. followed (with_relator g r) (λ more. Ok (value (Before []) (around [] (Relators None) more))))
+relators_step left g w symbols.Comma =
+    followed (relator left w) (λ r. followed (with_relator g r) (λ more. Ok (value (Before []) (around [] (Relators None) more))))
 relators_step left g w s = no_form
 
 abbrev pub arrows_step : ℕ → Gathering → List ℤ → Symbol → Result Value Stop
@@ -120,7 +132,8 @@ round_step place a w s = no_form
 
 abbrev pub square_step : Place → Option (List ℤ) → Around → List ℤ → Symbol → Result Value Stop
 square_step place entries a w symbols.Comma = followed (entered entries w) (λ e. Ok (with_bracket a place (Square (Some e))))
-square_step place (Some u) a w symbols.CloseSquare = followed (fits (comm u w)) (λ e. followed (behind_unit place e) (λ stage. Ok (value stage a)))
+square_step place (Some u) a w symbols.CloseSquare =
+    followed (fits (comm u w)) (λ e. followed (behind_unit place e) (λ stage. Ok (value stage a)))
 square_step place entries a w s = no_form
 
 abbrev pub bracket_step : Bracket → Place → Around → List ℤ → Symbol → Result Value Stop
@@ -212,7 +225,8 @@ RunsTo names v line result = (ts : List Token) → ReadsTokens line ts → Given
 
 -- the tokens of the line behind the first value give what those of the rest give behind the last one
 pub record RunsOn (names : List (List ℕ)) (line rest : List ℕ) (first last : Value) : Type 0 where
-  pub on : (ts : List Token) → ReadsTokens line ts → (us : List Token) × ReadsTokens rest us × (value_run names first ts ≡ value_run names last us)
+  pub on : (ts : List Token) → ReadsTokens line ts
+      → (us : List Token) × ReadsTokens rest us × (value_run names first ts ≡ value_run names last us)
   pub within : length rest ≤ length line
 
 -- what is meant so far stops the line at this fault

@@ -1,6 +1,7 @@
 -- What Reads and FirstFault say, computed: for the reader's own functions and for examples. That the verdicts are right is
 -- a law.
-use Rattle.std.specs.Prelude.{ℕ, zero, suc, ◌+◌, Bool, true, false, ◌&&◌, nat_le, if◌then◌else◌, is_some, is_none, ℤ, List, [], ◌∷◌, ◌++◌, map, length, codes, bytes_eq, Option, Some, None, option_map, option_and_then, Result, Ok, Err}
+use Rattle.std.specs.Prelude.{ℕ, zero, suc, ◌+◌, Bool, true, false, ◌&&◌, nat_le, if◌then◌else◌, is_some, is_none, ℤ, List, [], ◌∷◌, ◌++◌}
+use Rattle.std.specs.Prelude.{map, length, codes, bytes_eq, Option, Some, None, option_map, option_and_then, Result, Ok, Err}
 use Rattle.std.specs.List.{list_any}
 use Rattle.pq_base.specs.LPresentation.{LPresentation}
 use Rattle.lpres_reader.specs.declared.token.Symbol.TheVariants.{Comma}
@@ -20,7 +21,8 @@ one_if false = 0
 -- behind `opened` brackets, of which `allowed` may be open
 abbrev pub shallow_from : ℕ → ℕ → List ℕ → Bool
 shallow_from opened allowed [] = nat_le opened allowed
-shallow_from opened allowed (b ∷ line) = nat_le opened allowed && shallow_from (one_if (is_opening b) + opened) (one_if (is_closing b) + allowed) line
+shallow_from opened allowed (b ∷ line) =
+    nat_le opened allowed && shallow_from (one_if (is_opening b) + opened) (one_if (is_closing b) + allowed) line
 
 abbrev pub is_shallow : List ℕ → Bool
 is_shallow line = shallow_from 0 64 line
@@ -93,7 +95,8 @@ limit_verdict (Some t) next = Err (Limit t.limit (reported t.limit t.size))
 
 abbrev pub names_verdict : Option (List (List ℕ)) → Result LPresentation Kind
 names_verdict None = Err Syntax
-names_verdict (Some names) = if are_distinct names then limit_verdict (first_passed (names_trials 0 names)) (Ok (bare names)) else Err RepeatedName
+names_verdict (Some names) =
+    if are_distinct names then limit_verdict (first_passed (names_trials 0 names)) (Ok (bare names)) else Err RepeatedName
 
 abbrev pub images_verdict : LPresentation → Option (List (List ℤ)) → Result LPresentation Kind
 images_verdict M None = Err NotAllImages
@@ -105,7 +108,8 @@ item_end M (arrows qs q) = images_verdict M (images_of (length M.names) (map (ar
 
 abbrev pub item_verdict : LPresentation → Option ItemTree → Result LPresentation Kind
 item_verdict M None = Err Syntax
-item_verdict M (Some i) = if are_known M.names (body_tokens i) then limit_verdict (first_passed (item_trials M i)) (item_end M i) else Err UnknownName
+item_verdict M (Some i) =
+    if are_known M.names (body_tokens i) then limit_verdict (first_passed (item_trials M i)) (item_end M i) else Err UnknownName
 
 -- a line that is not skipped, behind nothing or behind a presentation
 abbrev pub line_verdict : Option LPresentation → List ℕ → Result LPresentation Kind
@@ -113,11 +117,13 @@ line_verdict None line = if is_shallow line then names_verdict (option_and_then 
 line_verdict (Some M) line = if is_shallow line then item_verdict M (option_and_then parse_item (tokens_of line)) else Err Deep
 
 -- lines from line n on
-abbrev pub next_verdict : ℕ → Result LPresentation Kind → (Option LPresentation → Result (Option LPresentation) (ℕ × Kind)) → Result (Option LPresentation) (ℕ × Kind)
+abbrev pub next_verdict : ℕ → Result LPresentation Kind → (Option LPresentation → Result (Option LPresentation) (ℕ × Kind))
+    → Result (Option LPresentation) (ℕ × Kind)
 next_verdict n (Ok L) more = more (Some L)
 next_verdict n (Err kind) more = Err (n, kind)
 
-abbrev pub kept_verdict : Bool → ℕ → Option LPresentation → List ℕ → (Option LPresentation → Result (Option LPresentation) (ℕ × Kind)) → Result (Option LPresentation) (ℕ × Kind)
+abbrev pub kept_verdict : Bool → ℕ → Option LPresentation → List ℕ → (Option LPresentation → Result (Option LPresentation) (ℕ × Kind))
+    → Result (Option LPresentation) (ℕ × Kind)
 kept_verdict true n m line more = more m
 kept_verdict false n m line more = next_verdict n (line_verdict m line) more
 

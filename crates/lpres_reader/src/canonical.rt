@@ -7,7 +7,8 @@ ghost use Rattle.pq_base.specs.Name.{name_text};
 ghost use Rattle.pq_base.specs.Lines.{text_of_lines};
 ghost use Rattle.lpres_reader.specs.Runs.{runs_of};
 ghost use Rattle.lpres_reader.specs.Reads.{Reads};
-ghost use Rattle.lpres_reader.specs.CanonicalText.{preceded, separated, exponent_text, run_text, word_text, generators_line, relator_lines, arrow_text, arrow_texts, endo_line, endo_lines, canonical_text};
+ghost use Rattle.lpres_reader.specs.CanonicalText.{preceded, separated, exponent_text, run_text, word_text, generators_line, relator_lines};
+ghost use Rattle.lpres_reader.specs.CanonicalText.{arrow_text, arrow_texts, endo_line, endo_lines, canonical_text};
 
 use crate::presentation::LPres;
 use free_words::Word;

@@ -39,7 +39,13 @@ impl Model for Gathered {
 
     ghost Value = { Gathering };
 
-    ghost view = { λ g. record { which = g.which; count = g.count; total = g.total; relators = g.relators.items; arrows = g.arrows.items } };
+    ghost view = { λ g. record {
+      which = g.which;
+      count = g.count;
+      total = g.total;
+      relators = g.relators.items;
+      arrows = g.arrows.items;
+    } };
 
     ghost invariant = { λ g. (g.count ≤ 4096) × (g.total ≤ 4194304) };
 }

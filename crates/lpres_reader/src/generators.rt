@@ -5,7 +5,8 @@ ghost use Rattle.pq_base.specs.Name.{IsNameText};
 ghost use Rattle.pq_base.specs.LPresentation.{AreDistinct};
 ghost use Rattle.lpres_reader.specs.declared.fault.Kind.TheVariants.{Syntax as SyntaxFault, RepeatedName as RepeatedFault};
 ghost use Rattle.lpres_reader.specs.Faults.{LineFault};
-ghost use Rattle.lpres_reader.specs.GeneratorNames.{line_names, names_at, names_on, named_first, names_from, texts_of, PassesFirst, AreWithin};
+ghost use Rattle.lpres_reader.specs.GeneratorNames.{line_names, names_at, names_on, named_first, names_from, texts_of, PassesFirst};
+ghost use Rattle.lpres_reader.specs.GeneratorNames.{AreWithin};
 ghost use Rattle.lpres_reader.specs.Tokens.{symbol as symbol_token};
 ghost use Rattle.lpres_reader.specs.Makes.{Makes};
 ghost use Rattle.lpres_reader.specs.Presentations.{AreGenerators};
@@ -25,7 +26,8 @@ use std::alloc::Global;
 /// The name behind a symbol, which has to be a comma, and what is behind that name.
 fn name_behind_symbol(symbol: Symbol, rest: &[u8]) -> Result<(&[u8], &[u8]), Stop>
     ensures { MatchResult result
-        (λ found. (names_from (symbol_token symbol) rest.now ≡ named_first found.0.now (names_on found.1.now)) × (length found.1.now < length rest.now))
+        (λ found. (names_from (symbol_token symbol) rest.now ≡ named_first found.0.now (names_on found.1.now))
+        × (length found.1.now < length rest.now))
         (Refuses (λ k. (k ≡ SyntaxFault) × (names_from (symbol_token symbol) rest.now ≡ None))) }
 {
     match symbol {
@@ -54,7 +56,8 @@ fn name_behind(line: &[u8]) -> Result<Option<(&[u8], &[u8])>, Stop>
 
 /// What is behind the first token of a line of generators.
 fn after_keyword(line: &[u8]) -> Result<&[u8], Stop>
-    ensures { MatchResult result (λ after. line_names line.now ≡ names_at after.now) (Refuses (λ k. (k ≡ SyntaxFault) × (line_names line.now ≡ None))) }
+    ensures { MatchResult result (λ after. line_names line.now ≡ names_at after.now)
+        (Refuses (λ k. (k ≡ SyntaxFault) × (line_names line.now ≡ None))) }
 {
     let (keyword, after) = next_name(line)?;
     if keyword == b"generators".as_slice() {
@@ -83,7 +86,8 @@ fn name_texts<'a>(alloc: Global, line: &'a [u8]) -> Result<Vec<&'a [u8]>, Stop>
 
 /// Refuses names of which one comes twice.
 fn check_distinct(alloc: Global, texts: &[&[u8]]) -> Result<(), Stop>
-    ensures { MatchResult result (λ _. AreDistinct (texts_of texts.now)) (Refuses (λ k. (k ≡ RepeatedFault) × (¬ AreDistinct (texts_of texts.now)))) }
+    ensures { MatchResult result (λ _. AreDistinct (texts_of texts.now))
+        (Refuses (λ k. (k ≡ RepeatedFault) × (¬ AreDistinct (texts_of texts.now)))) }
 {
     let mut seen = IndexSet::new(alloc);
     for text in texts {

@@ -13,7 +13,8 @@ use std::alloc::Global;
 
 /// The word of the one arrow from a generator, or `None` where there is none or more than one.
 fn image_of(arrows: &[Arrow], place: usize) -> Option<&Word>
-    ensures { MatchOption result ((w : List ℤ) → words_from place (mappings arrows.now) ≢ w ∷ []) (λ w. words_from place (mappings arrows.now) ≡ w.now ∷ []) }
+    ensures { MatchOption result ((w : List ℤ) → words_from place (mappings arrows.now) ≢ w ∷ [])
+        (λ w. words_from place (mappings arrows.now) ≡ w.now ∷ []) }
 {
     let mut found: Option<&Word> = None;
     for arrow in arrows {

@@ -1,6 +1,7 @@
 //! Laws of the grammar: each function does nothing, and its clause is a theorem.
 
-ghost use Rattle.lpres_reader.specs.ReaderLaws.{CanonicalTextsAreShort, CanonicalTextsReadBack, EachLineIsOneTree, EachTextReadsOrFails, LinesReadAsTheirTrees, VerdictsAreRight, WordsReadAsTheirTrees};
+ghost use Rattle.lpres_reader.specs.ReaderLaws.{CanonicalTextsAreShort, CanonicalTextsReadBack, EachLineIsOneTree, EachTextReadsOrFails};
+ghost use Rattle.lpres_reader.specs.ReaderLaws.{LinesReadAsTheirTrees, VerdictsAreRight, WordsReadAsTheirTrees};
 
 /// A line is at most one list of tokens, and these are at most one syntax tree.
 pub fn each_line_is_one_tree()

@@ -4,7 +4,8 @@ ghost use Rattle.std.specs.Prelude.{◌≡◌, ◌≤◌, All, map, IfSome, IfNo
 ghost use Rattle.pq_base.specs.Name.{IsName};
 ghost use Rattle.pq_base.specs.SignedWord.{IsLetter, HasLetters};
 ghost use Rattle.pq_base.specs.LPresentation.{AreDistinct};
-ghost use Rattle.lpres_reader.specs.Parts.{IsPresentationWithinLimits, AreFew, AreKeptWords, AreKeptEndos, AreKeptRelators, HasWordLetters, HasEndoLetters, HasRelatorLetters};
+ghost use Rattle.lpres_reader.specs.Parts.{IsPresentationWithinLimits, AreFew, AreKeptWords, AreKeptEndos, AreKeptRelators, HasWordLetters};
+ghost use Rattle.lpres_reader.specs.Parts.{HasEndoLetters, HasRelatorLetters};
 ghost use Rattle.lpres_reader.specs.Presentations.{made_of};
 
 use crate::presentation::LPres;

@@ -86,7 +86,8 @@ pub(crate) fn with_plain_factors<'a>(
     line: &'a [u8],
 ) -> Result<(Recipe, &'a [u8]), Stop>
     requires { AreGenerators names.now.keys }
-    ensures { MatchResult result (λ found. FactorsRunOn names.now.keys line.now found.1.now before found.0) (Refuses (FactorsStopAt names.now.keys before line.now)) }
+    ensures { MatchResult result (λ found. FactorsRunOn names.now.keys line.now found.1.now before found.0)
+        (Refuses (FactorsStopAt names.now.keys before line.now)) }
 {
     let mut word = before;
     let mut rest = line;

@@ -39,7 +39,9 @@ impl Model for LPres {
 
     ghost view = { λ p. made_of p.names.items p.fixed.items p.iterated.items p.endos.items };
 
-    ghost invariant = { λ p. AreGenerators p.names.items × IsLPresentation (made_of p.names.items p.fixed.items p.iterated.items p.endos.items) × IsWithinLimits (made_of p.names.items p.fixed.items p.iterated.items p.endos.items) };
+    ghost invariant = { λ p. AreGenerators p.names.items
+        × IsLPresentation (made_of p.names.items p.fixed.items p.iterated.items p.endos.items)
+        × IsWithinLimits (made_of p.names.items p.fixed.items p.iterated.items p.endos.items) };
 }
 
 impl LPres {

@@ -81,7 +81,8 @@ pub(crate) fn plain_steps<'a>(
     line: &'a [u8],
 ) -> Result<(Value, &'a [u8]), Stop>
     requires { AreGenerators names.now.keys }
-    ensures { MatchResult result (λ found. RunsOn names.now.keys line.now found.1.now so_far found.0) (Refuses (StopsAt names.now.keys so_far line.now)) }
+    ensures { MatchResult result (λ found. RunsOn names.now.keys line.now found.1.now so_far found.0)
+        (Refuses (StopsAt names.now.keys so_far line.now)) }
 {
     let Value { stage, around } = so_far;
     match stage {

@@ -9,7 +9,8 @@ ghost use Rattle.lpres_reader.specs.Known.{IsChecked};
 ghost use Rattle.lpres_reader.specs.Presentations.{AreGenerators};
 ghost use Rattle.lpres_reader.specs.Stops.{Refuses};
 ghost use Rattle.lpres_reader.specs.declared.syntax.Outer.TheVariants.{Relators};
-ghost use Rattle.lpres_reader.specs.Forms.{Found, form, unit_form, outer_form, bracket_form, word_form, behind_form, factor_form, exponent_form, form_step, first_form, is_behind, nothing_open};
+ghost use Rattle.lpres_reader.specs.Forms.{Found, form, unit_form, outer_form, bracket_form, word_form, behind_form, factor_form};
+ghost use Rattle.lpres_reader.specs.Forms.{exponent_form, form_step, first_form, is_behind, nothing_open};
 
 use crate::brackets::{Bracket, Brackets};
 use crate::fault::{Kind, Stop};

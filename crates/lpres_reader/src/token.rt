@@ -4,7 +4,8 @@ ghost use Rattle.std.specs.Prelude.{◌≡◌, ◌≤◌, ◌∷◌, length, Mat
 ghost use Rattle.std.specs.Char.{is_ascii_digit};
 ghost use Rattle.std.specs.List.{prefix_len};
 ghost use Rattle.pq_base.specs.Name.{is_name_byte};
-ghost use Rattle.lpres_reader.specs.Front.{token_of, line_end, no_token, token_first, symbol_of, front_at_minus, front_at, front_of, IsNamed};
+ghost use Rattle.lpres_reader.specs.Front.{token_of, line_end, no_token, token_first, symbol_of, front_at_minus, front_at, front_of};
+ghost use Rattle.lpres_reader.specs.Front.{IsNamed};
 ghost use Rattle.lpres_reader.specs.Tokens.{name};
 ghost use Rattle.lpres_reader.specs.Stops.{Refuses};
 ghost use Rattle.lpres_reader.specs.declared.fault.Kind.TheVariants.{Syntax as SyntaxFault};
@@ -125,7 +126,8 @@ pub(crate) fn next_token(line: &[u8]) -> Result<Option<(Token<'_>, &[u8])>, NoTo
 
 /// The name at the front of a line, and what is behind it.
 pub(crate) fn next_name(line: &[u8]) -> Result<(&[u8], &[u8]), Stop>
-    ensures { MatchResult result (λ found. front_of line.now ≡ token_first (name found.0.now) found.1.now) (Refuses (λ k. (k ≡ SyntaxFault) × (¬ IsNamed (front_of line.now)))) }
+    ensures { MatchResult result (λ found. front_of line.now ≡ token_first (name found.0.now) found.1.now)
+        (Refuses (λ k. (k ≡ SyntaxFault) × (¬ IsNamed (front_of line.now)))) }
 {
     match next_token(line)? {
         Some((Token::Name(text), rest)) => Ok((text, rest)),

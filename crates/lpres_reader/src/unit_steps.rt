@@ -3,7 +3,8 @@
 ghost use Rattle.std.specs.Prelude.{Ok};
 ghost use Rattle.lpres_reader.specs.Front.{token_of};
 ghost use Rattle.lpres_reader.specs.Presentations.{AreGenerators};
-ghost use Rattle.lpres_reader.specs.Values.{Given, signed, behind_unit, with_bracket, unit_step, factor_step, raised_step, exponent_step, minus_step};
+ghost use Rattle.lpres_reader.specs.Values.{Given, signed, behind_unit, with_bracket, unit_step, factor_step, raised_step, exponent_step};
+ghost use Rattle.lpres_reader.specs.Values.{minus_step};
 
 use crate::factor::Factor;
 use crate::fault::Stop;

@@ -3,7 +3,8 @@
 ghost use Rattle.std.specs.Prelude.{None};
 ghost use Rattle.lpres_reader.specs.declared.token.Symbol.TheVariants.{Equals};
 ghost use Rattle.lpres_reader.specs.Front.{token_of};
-ghost use Rattle.lpres_reader.specs.Values.{Given, entered, relator, relators_step, arrows_step, outer_step, round_step, square_step, bracket_step, word_step, behind_step, stack_end, value_end};
+ghost use Rattle.lpres_reader.specs.Values.{Given, entered, relator, relators_step, arrows_step, outer_step, round_step, square_step};
+ghost use Rattle.lpres_reader.specs.Values.{bracket_step, word_step, behind_step, stack_end, value_end};
 
 use crate::factor::Factor;
 use crate::fault::Stop;

@@ -1,7 +1,8 @@
 -- The presentation of the elementary abelian group is consistent and of class 1: letters commute up to joined and their
 -- powers are trivial, so each word is joined to a normal word, whose exponents are the word's sums modulo the prime.
 -- The prime is written suc q.
-use Rattle.std.proofs.Common.{◌≡◌, ℕ, zero, suc, ◌+◌, ◌%◌, ◌<◌, ◌≤◌, ℤ, pos, negsuc, List, [], ◌∷◌, ◌++◌, length, refl, ap, sym, ◌∙◌, subst, arith, inl, inr, mod-eq_of_lt}
+use Rattle.std.proofs.Common.{◌≡◌, ℕ, zero, suc, ◌+◌, ◌%◌, ◌<◌, ◌≤◌, ℤ, pos, negsuc, List, [], ◌∷◌, ◌++◌, length, refl, ap, sym, ◌∙◌, subst}
+use Rattle.std.proofs.Common.{arith, inl, inr, mod-eq_of_lt}
 use Rattle.std.proofs.lemmas.List.{length-replicate, get_or-replicate, ext_get_or}
 use Rattle.std.proofs.Math.Nat.{mul-add-mod_self_left}
 use Rattle.std.proofs.lemmas.Bool.{cases_lt}
@@ -13,10 +14,12 @@ use Rattle.pq_base.specs.Series.{NextWord, InSeries, HasClass}
 use Rattle.pq_base.specs.Series.NextWord.{no_word, then_commutator, then_power}
 use Rattle.pq_base.specs.Elementary.{zeros, elementary, ElementaryIsConsistentOfClassOne}
 use Rattle.pq_base.proofs.words.WordLaws.{word_from-zeros}
-use Rattle.pq_base.proofs.words.JoinedLaws.{joined-refl, joined-from_equal, joined-sym, joined-trans, joined-append_left, joined-append_right, joined-solve_right, commute-from_comm, commutator-joined, power-joined}
+use Rattle.pq_base.proofs.words.JoinedLaws.{joined-refl, joined-from_equal, joined-sym, joined-trans, joined-append_left}
+use Rattle.pq_base.proofs.words.JoinedLaws.{joined-append_right, joined-solve_right, commute-from_comm, commutator-joined, power-joined}
 use Rattle.pq_base.proofs.tables.TableLaws.{get_or-below}
 use Rattle.pq_base.proofs.ElementarySides.{power_word-elementary, commutator_word-elementary, zeros-below, elementary-presentation}
-use Rattle.pq_base.proofs.ExponentSums.{count_letters, exponent_sum, exponent_sum-append, exponent_sum-copies, exponent_sum-comm, exponent_sum-word_from, joined_sum, elementary-unique}
+use Rattle.pq_base.proofs.ExponentSums.{count_letters, exponent_sum, exponent_sum-append, exponent_sum-copies, exponent_sum-comm}
+use Rattle.pq_base.proofs.ExponentSums.{exponent_sum-word_from, joined_sum, elementary-unique}
 
 -- powers of letters are trivial, and letters commute
 pub letter_power : (p n i : ℕ) → i < n → Joined (elementary p n) (copies (letter i) p) []
@@ -59,7 +62,9 @@ before_own q n j x m e h below count all = elim (cases_lt (suc x) (suc q)) [
         exponents = 0 ∷ e;
         count = count;
         below = (omega arith, all);
-        joined = subst (λ (y : ℕ). Joined (elementary (suc q) n) (letter j ++ (copies (letter j) y ++ word_from (suc j) e)) (word_from (suc j) e)) is
+        joined =
+            subst (λ (y : ℕ). Joined (elementary (suc q) n) (letter j ++ (copies (letter j) y ++ word_from (suc j) e))
+            (word_from (suc j) e)) is
             (joined-append_right (word_from (suc j) e) (letter_power (suc q) n j h));
       }
 ]
@@ -90,7 +95,8 @@ settles_from : (p n m : ℕ) (v w : List ℤ) → Joined (elementary p n) v w �
 settles_from p n m v w c s = record { exponents = s.exponents; count = s.count; below = s.below; joined = joined-trans c s.joined }
 
 one_letter : (q n i : ℕ) (w : List ℤ) → i < n → Settles (suc q) n 0 n w → Settles (suc q) n 0 n (letter i ++ w)
-one_letter q n i w h s = settles_from (suc q) n n (letter i ++ w) (letter i ++ word_from 0 s.exponents) (joined-append_left (letter i) s.joined)
+one_letter q n i w h s =
+    settles_from (suc q) n n (letter i ++ w) (letter i ++ word_from 0 s.exponents) (joined-append_left (letter i) s.joined)
     (letter_before q n 0 i n s.exponents (omega arith) h (omega arith) s.count s.below)
 
 many_letters : (q n i x : ℕ) (w : List ℤ) → i < n → Settles (suc q) n 0 n w → Settles (suc q) n 0 n (copies (letter i) x ++ w)
@@ -126,7 +132,8 @@ trivial-from_sums q n w h sums =
     ∙ sym (get_or-replicate n k 0 0 (omega arith))) in
     joined-trans s.joined (joined-from_equal (elementary (suc q) n) (ap (word_from 0) none ∙ word_from-zeros 0 n))
 
-product_sums : (q n k : ℕ) (w : List ℤ) → NextWord (elementary (suc q) n) (InSeries (elementary (suc q) n) 0) w → exponent_sum q k w % suc q ≡ 0
+product_sums : (q n k : ℕ) (w : List ℤ) → NextWord (elementary (suc q) n) (InSeries (elementary (suc q) n) 0) w
+    → exponent_sum q k w % suc q ≡ 0
 product_sums q n k w no_word = mod-eq_of_lt (omega arith)
 product_sums q n k w (then_commutator u v x h l next) =
     ap (λ (s : ℕ). s % suc q)

@@ -30,7 +30,8 @@ module _ (T : Table) (group : IsGroup T) (p : ℕ) (class : HasTableClass T p 1)
   obeys_relators n g below r (commutator_relator j i h e) =
       ap (λ (w : List ℤ). value T g (comm (letter j) (letter i) ++ inv w)) (commutator_word-elementary p n j i)
       ∙ ap (value T g) (append-nil (comm (letter j) (letter i))) ∙ value-comm T group g below (letter j) (letter i)
-      ∙ commutator-neutral (value T g (letter j)) (value T g (letter i)) (value-below T group g below (letter j)) (value-below T group g below (letter i))
+      ∙ commutator-neutral (value T g (letter j)) (value T g (letter i)) (value-below T group g below (letter j))
+      (value-below T group g below (letter i))
 
 pub replicate-weights : (n : ℕ) → AreWeights 1 (replicate n 1)
 replicate-weights zero = tt

@@ -1,6 +1,8 @@
 -- In an elementary presentation joined words have equal exponent sums modulo the prime, so normal words that are joined
 -- are equal. The prime is written suc q: an inverse letter counts as q.
-use Rattle.std.proofs.Common.{◌≡◌, ℕ, zero, suc, ◌+◌, ◌*◌, ◌%◌, ◌<◌, Bool, true, false, eqb, ℤ, pos, negsuc, neg_ℤ, List, [], ◌∷◌, ◌++◌, get_or, length, refl, ap, ap₂, sym, ◌∙◌, arith, add-zero, mul-one, ne_eqb, eq-eqb, mul-add, mod-eq_of_lt, mul-zero, suc-mul}
+use Rattle.std.proofs.Common.{◌≡◌, ℕ, zero, suc, ◌+◌, ◌*◌, ◌%◌, ◌<◌, Bool, true, false, eqb, ℤ, pos, negsuc, neg_ℤ, List, [], ◌∷◌, ◌++◌}
+use Rattle.std.proofs.Common.{get_or, length, refl, ap, ap₂, sym, ◌∙◌, arith, add-zero, mul-one, ne_eqb, eq-eqb, mul-add, mod-eq_of_lt}
+use Rattle.std.proofs.Common.{mul-zero, suc-mul}
 use Rattle.std.proofs.Math.Nat.{add-mul-mod_self_left}
 use Rattle.std.proofs.lemmas.List.{ext_get_or, get_or_past}
 use Rattle.pq_base.specs.SignedWord.{inv, copies, comm}
@@ -43,7 +45,8 @@ exponent_sum-append q k (l ∷ u) v = omega (arith, exponent_sum-append q k u v)
 
 pub exponent_sum-copies : (q k : ℕ) (u : List ℤ) (m : ℕ) → exponent_sum q k (copies u m) ≡ m * exponent_sum q k u
 exponent_sum-copies q k u zero = omega arith
-exponent_sum-copies q k u (suc m) = omega (arith, exponent_sum-append q k u (copies u m), exponent_sum-copies q k u m, suc-mul m (exponent_sum q k u))
+exponent_sum-copies q k u (suc m) =
+    omega (arith, exponent_sum-append q k u (copies u m), exponent_sum-copies q k u m, suc-mul m (exponent_sum q k u))
 
 counted_sum : (q : ℕ) (b : Bool) → counted b q + counted b 1 ≡ suc q * counted b 1
 counted_sum q true = omega arith
@@ -82,14 +85,16 @@ exponent_sum-comm q k u v =
 -- trivial words have a multiple of the prime as sum
 relator_sum : (q n k : ℕ) (r : List ℤ) → IsRelatorOf (elementary (suc q) n) r → (m : ℕ) × (exponent_sum q k r ≡ suc q * m)
 relator_sum q n k r (power_relator i h) =
-    let none : exponent_sum q k (inv (power_word (elementary (suc q) n) i)) ≡ 0 = ap (λ (w : List ℤ). exponent_sum q k (inv w)) (power_word-elementary (suc q) n i) in (
+    let none : exponent_sum q k (inv (power_word (elementary (suc q) n) i)) ≡ 0 =
+    ap (λ (w : List ℤ). exponent_sum q k (inv w)) (power_word-elementary (suc q) n i) in (
       exponent_sum q k (letter i),
       exponent_sum-append q k (copies (letter i) (suc q)) (inv (power_word (elementary (suc q) n) i))
           ∙ ap₂ (λ (x y : ℕ). x + y) (exponent_sum-copies q k (letter i) (suc q)) none
           ∙ add-zero (suc q * exponent_sum q k (letter i)),
     )
 relator_sum q n k r (commutator_relator j i h e) =
-    let none : exponent_sum q k (inv (commutator_word (elementary (suc q) n) j i)) ≡ 0 = ap (λ (w : List ℤ). exponent_sum q k (inv w)) (commutator_word-elementary (suc q) n j i) in (
+    let none : exponent_sum q k (inv (commutator_word (elementary (suc q) n) j i)) ≡ 0 =
+    ap (λ (w : List ℤ). exponent_sum q k (inv w)) (commutator_word-elementary (suc q) n j i) in (
       count_letters k (letter j) + count_letters k (letter i),
       exponent_sum-append q k (comm (letter j) (letter i)) (inv (commutator_word (elementary (suc q) n) j i))
           ∙ ap₂ (λ (x y : ℕ). x + y) (exponent_sum-comm q k (letter j) (letter i)) none

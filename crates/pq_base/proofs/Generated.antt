@@ -1,5 +1,6 @@
 -- In every answer the images generate: each generator is joined to the word that its definition spells, under the images.
-use Rattle.std.proofs.Common.{◌≡◌, ℕ, zero, suc, ◌+◌, ◌<◌, ℤ, List, [], ◌∷◌, ◌++◌, get_or, length, refl, sym, ◌∙◌, subst, arith, length-append, inl, inr}
+use Rattle.std.proofs.Common.{◌≡◌, ℕ, zero, suc, ◌+◌, ◌<◌, ℤ, List, [], ◌∷◌, ◌++◌, get_or, length, refl, sym, ◌∙◌, subst, arith}
+use Rattle.std.proofs.Common.{length-append, inl, inr}
 use Rattle.std.proofs.lemmas.List.{append-nil, get_or_push, get_or_append_left}
 use Rattle.std.proofs.lemmas.Bool.{cases_lt}
 use Rattle.pq_base.specs.SignedWord.{copies, comm, sub}
@@ -9,7 +10,8 @@ use Rattle.pq_base.specs.Answer.{Answer, Definition, HasDefinition, image_words,
 use Rattle.pq_base.specs.Answer.Definition.{image, commutator, power}
 use Rattle.pq_base.specs.ClassOne.{AnswersAreGenerated}
 use Rattle.pq_base.proofs.words.WordLaws.{sub-comm, sub-copies}
-use Rattle.pq_base.proofs.words.JoinedLaws.{joined-from_equal, joined-sym, joined-trans, joined-comm, joined-copies, power-joined, commutator-joined}
+use Rattle.pq_base.proofs.words.JoinedLaws.{joined-from_equal, joined-sym, joined-trans, joined-comm, joined-copies, power-joined}
+use Rattle.pq_base.proofs.words.JoinedLaws.{commutator-joined}
 
 -- each of the generators before place k is joined to its word under the images
 pub record AreSpelled (A : Answer) (k : ℕ) (words : List (List ℤ)) : Type 0 where
@@ -51,15 +53,16 @@ one_more A k words d h s has =
     let long : length words ≡ k = s.count in
     record {
       count = omega (arith, length-append words (word ∷ []));
-      each = λ m below. elim (cases_lt m k) as (λ x. Joined A.presentation (letter m) (sub (get_or (words ++ word ∷ []) m []) (image_words A))) [
-        | inl before ↦ subst (λ (w : List ℤ). Joined A.presentation (letter m) (sub w (image_words A)))
-            (sym (get_or_append_left words (word ∷ []) [] m (omega arith))) (s.each m before)
-        | inr after ↦
-            let place : k ≡ m = omega arith in
-            subst (λ (x : ℕ). Joined A.presentation (letter x) (sub (get_or (words ++ word ∷ []) x []) (image_words A))) place
-            (subst (λ (w : List ℤ). Joined A.presentation (letter k) (sub w (image_words A)))
-            (sym (get_or_push words word [] k long)) (spelled-joined A k words d h s has))
-      ];
+      each = λ m below. elim (cases_lt m k)
+          as (λ x. Joined A.presentation (letter m) (sub (get_or (words ++ word ∷ []) m []) (image_words A))) [
+            | inl before ↦ subst (λ (w : List ℤ). Joined A.presentation (letter m) (sub w (image_words A)))
+                (sym (get_or_append_left words (word ∷ []) [] m (omega arith))) (s.each m before)
+            | inr after ↦
+                let place : k ≡ m = omega arith in
+                subst (λ (x : ℕ). Joined A.presentation (letter x) (sub (get_or (words ++ word ∷ []) x []) (image_words A))) place
+                (subst (λ (w : List ℤ). Joined A.presentation (letter k) (sub w (image_words A)))
+                (sym (get_or_push words word [] k long)) (spelled-joined A k words d h s has))
+          ];
     }
 
 -- along a list of definitions of the generators from place k on

@@ -35,8 +35,11 @@ pub weights-followed : (least w n : ℕ) (ws : List ℕ) → AreWeights least ws
 weights-followed least w n [] h l m few = replicated-weights least w n l few
 weights-followed least w n (v ∷ []) h l m few = (h.0, h.1, replicated-weights v w n m few)
 weights-followed least w n (v ∷ u ∷ ws) h l m few =
-    let first = first-at_most_last v u ws h.2 in
-    (h.0, h.1, weights-followed v w n (u ∷ ws) h.2 (let below : u ≤ last_or_zero (u ∷ ws) = first in let start : v ≤ u = h.2.0 in omega arith) m few)
+    let first = first-at_most_last v u ws h.2 in (
+      h.0,
+      h.1,
+      weights-followed v w n (u ∷ ws) h.2 (let below : u ≤ last_or_zero (u ∷ ws) = first in let start : v ≤ u = h.2.0 in omega arith) m few,
+    )
 
 -- at class 0 there is no generator
 pub no_weights : (ws : List ℕ) → AreWeights 1 ws → last_or_zero ws ≡ 0 → length ws ≡ 0

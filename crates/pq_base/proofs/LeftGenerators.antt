@@ -1,5 +1,6 @@
 -- The generators that are left where some are dropped: their places among the given generators, and their definitions.
-use Rattle.std.proofs.Common.{◌≡◌, ℕ, zero, suc, ◌+◌, ◌<◌, Bool, true, false, List, [], ◌∷◌, get_or, length, refl, ap, sym, ◌∙◌, arith, true≢false}
+use Rattle.std.proofs.Common.{◌≡◌, ℕ, zero, suc, ◌+◌, ◌<◌, Bool, true, false, List, [], ◌∷◌, get_or, length, refl, ap, sym, ◌∙◌, arith}
+use Rattle.std.proofs.Common.{true≢false}
 use Rattle.std.proofs.lemmas.List.{get_or_past}
 use Rattle.pq_base.specs.Answer.Definition.{image}
 use Rattle.pq_base.specs.ClassOne.{left_count, class_one_definitions}

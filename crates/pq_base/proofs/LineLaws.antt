@@ -14,7 +14,8 @@ text_of_lines-next out new all line before after written next so_far =
     rw written (simp append_assoc now)
 
 -- a writer that wrote the next lines
-pub text_of_lines-part : (out new all : List ℕ) (part before after : List (List ℕ)) → new ≡ out ++ text_of_lines part → before ≡ part ++ after
+pub text_of_lines-part : (out new all : List ℕ) (part before after : List (List ℕ)) → new ≡ out ++ text_of_lines part
+    → before ≡ part ++ after
     → out ++ text_of_lines before ≡ all → new ++ text_of_lines after ≡ all
 text_of_lines-part out new all part before after written next so_far =
     let whole : out ++ text_of_lines (part ++ after) ≡ all = rw next at so_far in

@@ -1,6 +1,7 @@
 -- Members of lists by recursion, and lists in which no member stands twice: under concatenation, under maps that tell
 -- members apart, and in ranges of numbers.
-use Rattle.std.proofs.Common.{◌≡◌, ◌≢◌, ◌⊎◌, inl, inr, ℕ, zero, suc, ◌+◌, ◌<◌, ◌≤◌, List, [], ◌∷◌, ◌++◌, get_or, length, map, refl, ap, sym, subst, arith, eq-or-lt_of_le}
+use Rattle.std.proofs.Common.{◌≡◌, ◌≢◌, ◌⊎◌, inl, inr, ℕ, zero, suc, ◌+◌, ◌<◌, ◌≤◌, List, [], ◌∷◌, ◌++◌, get_or, length, map, refl, ap, sym}
+use Rattle.std.proofs.Common.{subst, arith, eq-or-lt_of_le}
 use Rattle.std.specs.List.{Contains, flat_map}
 use Rattle.pq_base.specs.Canonical.{numbers_from}
 

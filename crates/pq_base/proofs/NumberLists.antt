@@ -1,5 +1,6 @@
 -- Lists of successive numbers: their length, their entries, and what holds of each.
-use Rattle.std.proofs.Common.{◌≡◌, ◌<◌, ◌≤◌, ◌+◌, ◌-◌, ℕ, zero, suc, List, [], ◌∷◌, ◌++◌, get_or, length, map, refl, ap, ap₂, ◌∙◌, arith, add-one}
+use Rattle.std.proofs.Common.{◌≡◌, ◌<◌, ◌≤◌, ◌+◌, ◌-◌, ℕ, zero, suc, List, [], ◌∷◌, ◌++◌, get_or, length, map, refl, ap, ap₂, ◌∙◌, arith}
+use Rattle.std.proofs.Common.{add-one}
 use Rattle.std.specs.Prelude.{All}
 use Rattle.std.specs.List.{Contains}
 use Rattle.std.proofs.lemmas.List.{get_or-map, map_push}
@@ -56,5 +57,8 @@ All-numbers P a (suc n) h =
 pub Contains-numbers_from : (a n c : ℕ) → a ≤ c → c < a + n → Contains (numbers_from a n) c
 Contains-numbers_from a n c h l =
     let long = length-numbers_from a n in
-    let entry = get_or-numbers_from a n (c - a) c (omega arith) in
-    (c - a, (let within : c - a < length (numbers_from a n) = omega arith in within), (let same : get_or (numbers_from a n) (c - a) c ≡ c = omega arith in same))
+    let entry = get_or-numbers_from a n (c - a) c (omega arith) in (
+      c - a,
+      (let within : c - a < length (numbers_from a n) = omega arith in within),
+      (let same : get_or (numbers_from a n) (c - a) c ≡ c = omega arith in same),
+    )

@@ -6,7 +6,8 @@ use Rattle.pq_base.specs.SignedWord.{inv, copies, pow}
 use Rattle.pq_base.specs.Presentation.{Presentation}
 use Rattle.pq_base.specs.Joined.{Joined}
 use Rattle.pq_base.proofs.words.WordLaws.{append-copies}
-use Rattle.pq_base.proofs.words.JoinedLaws.{joined-sym, joined-trans, joined-from_equal, joined-append_left, joined-append_right, joined-solve_left, inv-append-joined}
+use Rattle.pq_base.proofs.words.JoinedLaws.{joined-sym, joined-trans, joined-from_equal, joined-append_left, joined-append_right}
+use Rattle.pq_base.proofs.words.JoinedLaws.{joined-solve_left, inv-append-joined}
 
 module _ (P : Presentation) (u : List ℤ) where
   -- one factor more
@@ -19,7 +20,8 @@ module _ (P : Presentation) (u : List ℤ) where
       let v = copies (inv u) (suc n) in
       let c : Joined P (v ++ (inv u ++ u)) (v ++ []) = joined-append_left v (inv-append-joined P u) in
       let d : Joined P v (v ++ (inv u ++ u)) = joined-sym (subst (λ (x : List ℤ). Joined P (v ++ (inv u ++ u)) x) (append-nil v) c) in
-      joined-trans d (joined-from_equal P (sym (append_assoc v (inv u) u) ∙ ap (λ (x : List ℤ). x ++ u) (sym (append-copies (inv u) (suc n)))))
+      joined-trans d (joined-from_equal P
+      (sym (append_assoc v (inv u) u) ∙ ap (λ (x : List ℤ). x ++ u) (sym (append-copies (inv u) (suc n)))))
 
   -- one factor less
   pub pow-pred_joined : (k : ℤ) → Joined P (pow u (pred_ℤ k)) (pow u k ++ inv u)

@@ -1,6 +1,7 @@
 -- Answers cut to a class: cut to the class of the answer or a greater one nothing is left out, and cut to two classes one after
 -- the other is cut to the smaller one.
-use Rattle.std.proofs.Common.{◌≡◌, ℕ, zero, suc, ◌+◌, ◌<◌, ◌≤◌, Bool, leb, List, [], ◌∷◌, get_or, length, map, take, inl, inr, refl, ap, ap₂, sym, ◌∙◌, arith}
+use Rattle.std.proofs.Common.{◌≡◌, ℕ, zero, suc, ◌+◌, ◌<◌, ◌≤◌, Bool, leb, List, [], ◌∷◌, get_or, length, map, take, inl, inr, refl, ap}
+use Rattle.std.proofs.Common.{ap₂, sym, ◌∙◌, arith}
 use Rattle.std.proofs.lemmas.Bool.{cases_lt, le-leb, leb-true, false_from_ne_true}
 use Rattle.std.proofs.lemmas.List.{take_all}
 use Rattle.pq_base.specs.Presentation.{Presentation, IsPresentation}
@@ -31,18 +32,22 @@ pub record SameParts (A B : Answer) : Type 0 where
   pub definitions : A.definitions ≡ B.definitions
   pub images : A.images ≡ B.images
 
-pub same_presentations : (P Q : Presentation) → P.prime ≡ Q.prime → P.rank ≡ Q.rank → P.powers ≡ Q.powers → P.commutators ≡ Q.commutators → P ≡ Q
+pub same_presentations : (P Q : Presentation) → P.prime ≡ Q.prime → P.rank ≡ Q.rank → P.powers ≡ Q.powers → P.commutators ≡ Q.commutators
+    → P ≡ Q
 same_presentations P Q a b c d =
     ap₂ (λ (p n : ℕ). record { prime = p; rank = n; powers = P.powers; commutators = P.commutators }) a b
     ∙ ap₂ (λ (xs : List (List ℕ)) (ys : List (List (List ℕ))). record { prime = Q.prime; rank = Q.rank; powers = xs; commutators = ys }) c d
 
 pub same_answers : (A B : Answer) → SameParts A B → A ≡ B
 same_answers A B s =
-    ap₂ (λ (P : Presentation) (ws : List ℕ). record { presentation = P; weights = ws; names = A.names; definitions = A.definitions; images = A.images })
+    ap₂ (λ (P : Presentation) (ws : List ℕ).
+    record { presentation = P; weights = ws; names = A.names; definitions = A.definitions; images = A.images })
     (same_presentations A.presentation B.presentation s.prime s.rank s.powers s.commutators) s.weights
-    ∙ ap₂ (λ (ns : List (List ℕ)) (ds : List Source). record { presentation = B.presentation; weights = B.weights; names = ns; definitions = ds; images = A.images })
+    ∙ ap₂ (λ (ns : List (List ℕ)) (ds : List Source).
+    record { presentation = B.presentation; weights = B.weights; names = ns; definitions = ds; images = A.images })
     s.names s.definitions
-    ∙ ap (λ (es : List (List ℕ)). record { presentation = B.presentation; weights = B.weights; names = B.names; definitions = B.definitions; images = es }) s.images
+    ∙ ap (λ (es : List (List ℕ)).
+    record { presentation = B.presentation; weights = B.weights; names = B.names; definitions = B.definitions; images = es }) s.images
 
 -- weights that are counted, and weights that aren't
 pub count-one_more : (k w : ℕ) (ws : List ℕ) → w ≤ k → count_up_to k (w ∷ ws) ≡ suc (count_up_to k ws)
@@ -114,7 +119,8 @@ cut_commutators-twice zero n xs h = refl
 cut_commutators-twice (suc m) zero xs h = absurd (omega arith)
 cut_commutators-twice (suc m) (suc n) [] h = refl
 cut_commutators-twice (suc m) (suc n) (x ∷ xs) h =
-    ap₂ (λ (l : List (List ℕ)) (ls : List (List (List ℕ))). l ∷ ls) (take-take_each m n x (omega arith)) (cut_commutators-twice m n xs (omega arith))
+    ap₂ (λ (l : List (List ℕ)) (ls : List (List (List ℕ))). l ∷ ls) (take-take_each m n x (omega arith))
+    (cut_commutators-twice m n xs (omega arith))
 
 -- cut to a class, and then to a smaller one
 pub restrictions-compose : (A : Answer) → AreWeights 1 A.weights → (j k : ℕ) → j ≤ k → up_to_class (up_to_class A k) j ≡ up_to_class A j
@@ -140,7 +146,8 @@ take-each n [] h = refl
 take-each n (x ∷ xs) h =
     ap₂ (λ (l : List ℕ) (ls : List (List ℕ)). l ∷ ls) (take_all n x (h 0 (omega arith))) (take-each n xs (λ i l. h (suc i) (omega arith)))
 
-cut_powers-all : (n : ℕ) (xs : List (List ℕ)) → length xs ≡ n → ((i : ℕ) → i < n → suc i + length (get_or xs i []) ≡ n) → cut_powers n xs ≡ xs
+cut_powers-all : (n : ℕ) (xs : List (List ℕ)) → length xs ≡ n → ((i : ℕ) → i < n → suc i + length (get_or xs i []) ≡ n)
+    → cut_powers n xs ≡ xs
 cut_powers-all zero [] c h = refl
 cut_powers-all zero (x ∷ xs) c h = absurd (omega arith)
 cut_powers-all (suc n) [] c h = absurd (omega arith)

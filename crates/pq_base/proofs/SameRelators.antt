@@ -12,7 +12,8 @@ same-relators_turned L M same = record { names = sym same.names; relators = λ r
 
 module _ (L M : LPresentation) (same : HasSameRelators L M) where
   pub same-obeys : (T : Table) (f : List ℕ) → Obeys T f M → Obeys T f L
-  same-obeys T f o = record { count = o.count ∙ ap length same.names; elements = o.elements; kills = λ r e. o.kills r ((same.relators r).0 e) }
+  same-obeys T f o =
+      record { count = o.count ∙ ap length same.names; elements = o.elements; kills = λ r e. o.kills r ((same.relators r).0 e) }
 
   same-largest : (p c : ℕ) (A : Answer) → IsLargest L p c A → IsLargest M p c A
   same-largest p c A is = record {

@@ -9,7 +9,8 @@ use Rattle.pq_base.specs.Series.NextWord.{no_word, then_commutator, then_power}
 use Rattle.pq_base.specs.Laws.{LevelsAreNormal, ClassesGrow}
 use Rattle.pq_base.proofs.words.LetterLaws.{HasLetters-append, HasLetters-inv}
 use Rattle.pq_base.proofs.groups.Groups.{power_in}
-use Rattle.pq_base.proofs.groups.GroupLevels.{IsClosed, NextIn, InLevelIn, level-normal, level-same, level-commutator, level-power, level-fall, level-fall_by}
+use Rattle.pq_base.proofs.groups.GroupLevels.{IsClosed, NextIn, InLevelIn, level-normal, level-same, level-commutator, level-power}
+use Rattle.pq_base.proofs.groups.GroupLevels.{level-fall, level-fall_by}
 use Rattle.pq_base.proofs.groups.GroupLevels.NextIn.{no_factor, commutator_times, power_times}
 use Rattle.pq_base.proofs.words.WordGroup.{word_group}
 

@@ -27,7 +27,8 @@ pub count_up_to-within : (k : ℕ) (ws : List ℕ) → count_up_to k ws ≤ leng
 count_up_to-within k [] = omega arith
 count_up_to-within k (w ∷ ws) = one_more-within (leb w k) (count_up_to k ws) (length ws) (count_up_to-within k ws)
 
-pub weights-past_count : (least k : ℕ) (ws : List ℕ) → AreWeights least ws → (j : ℕ) → count_up_to k ws ≤ j → j < length ws → k < get_or ws j 0
+pub weights-past_count : (least k : ℕ) (ws : List ℕ) → AreWeights least ws → (j : ℕ) → count_up_to k ws ≤ j → j < length ws
+    → k < get_or ws j 0
 weights-past_count least k [] h j b l = absurd (omega arith)
 weights-past_count least k (w ∷ ws) h j b l = by_test (leb w k) refl (weights-past_count w k ws h.2) j b l
   where

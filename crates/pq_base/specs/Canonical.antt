@@ -1,6 +1,7 @@
 -- The order in which definitions are preferred, and the answers that follow it.
 -- From: this project's own order. It is a property of the answer alone, with no tails and no span.
-use Rattle.std.specs.Prelude.{◌≡◌, ◌≢◌, ◌⊎◌, ◌<◌, ◌≤◌, ◌+◌, ◌-◌, ℕ, zero, suc, pred, Bool, true, false, ◌&&◌, ◌||◌, not, eqb, leb, List, [], ◌∷◌, ◌++◌, get_or, length, map, take, drop, replicate, filter}
+use Rattle.std.specs.Prelude.{◌≡◌, ◌≢◌, ◌⊎◌, ◌<◌, ◌≤◌, ◌+◌, ◌-◌, ℕ, zero, suc, pred, Bool, true, false, ◌&&◌, ◌||◌, not, eqb, leb, List, []}
+use Rattle.std.specs.Prelude.{◌∷◌, ◌++◌, get_or, length, map, take, drop, replicate, filter}
 use Rattle.pq_base.specs.Presentation.{Presentation, power_side, commutator_side}
 use Rattle.pq_base.specs.Answer.{Answer, Definition, class_of, weight_at, definition_at}
 use Rattle.pq_base.specs.Answer.Definition.{image, commutator, power}

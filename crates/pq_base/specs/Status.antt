@@ -1,7 +1,8 @@
 -- The numbers of the statuses. 1 is left to a program that can't get its words.
 use Rattle.std.specs.Prelude.{ℕ}
 use Rattle.pq_base.specs.declared.status.Status.{Status}
-use Rattle.pq_base.specs.declared.status.Status.TheVariants.{Done, BadWords, BadText, TooLarge, ReadFault, WriteFault, NoMemory, CertRefused, InputTooLong}
+use Rattle.pq_base.specs.declared.status.Status.TheVariants.{Done, BadWords, BadText, TooLarge, ReadFault, WriteFault, NoMemory}
+use Rattle.pq_base.specs.declared.status.Status.TheVariants.{CertRefused, InputTooLong}
 
 abbrev pub status_number : Status → ℕ
 status_number Done = 0

@@ -1,6 +1,9 @@
 //! Laws of the definitions: each function does nothing, and its clause is a theorem.
 
-ghost use Rattle.pq_base.specs.Laws.{ClassesGrow, CommutatorsOfLevels, GeneratedTablesHaveTheClass, JoinedWordsAreACongruence, JoinedWordsHaveEqualValues, JoinedWordsNeedNoOtherLetters, LevelsAreNormal, OrdersAreUnique, RestrictionsAreWhole, RestrictionsCompose, SameRelatorsGiveSameQuotients, SubstitutionsCarryJoinedWords, SubstitutionsCarryTheSeries, ValuesCarryTheSeries};
+ghost use Rattle.pq_base.specs.Laws.{ClassesGrow, CommutatorsOfLevels, GeneratedTablesHaveTheClass, JoinedWordsAreACongruence};
+ghost use Rattle.pq_base.specs.Laws.{JoinedWordsHaveEqualValues, JoinedWordsNeedNoOtherLetters, LevelsAreNormal, OrdersAreUnique};
+ghost use Rattle.pq_base.specs.Laws.{RestrictionsAreWhole, RestrictionsCompose, SameRelatorsGiveSameQuotients};
+ghost use Rattle.pq_base.specs.Laws.{SubstitutionsCarryJoinedWords, SubstitutionsCarryTheSeries, ValuesCarryTheSeries};
 
 /// Joined words are a congruence: an equivalence that concatenation and inversion respect, in which each relator and each
 /// cancelling pair is joined to the empty word. So the words of a presentation stand for the elements of a group.

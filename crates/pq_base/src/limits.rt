@@ -1,7 +1,9 @@
 //! How large inputs and answers may be. The definitions name the same limits in `specs/Limits`.
 
 ghost use Rattle.std.specs.Prelude.{◌≡◌};
-ghost use Rattle.pq_base.specs.Limits.{max_presentation_bytes, max_certificate_bytes, max_name_bytes, max_names, max_fixed, max_iterated, max_endos, max_exponent, max_letters, max_total_letters, max_open_brackets, max_class, max_rank, max_sample};
+ghost use Rattle.pq_base.specs.Limits.{max_presentation_bytes, max_certificate_bytes, max_name_bytes, max_names, max_fixed, max_iterated};
+ghost use Rattle.pq_base.specs.Limits.{max_endos, max_exponent, max_letters, max_total_letters, max_open_brackets, max_class, max_rank};
+ghost use Rattle.pq_base.specs.Limits.{max_sample};
 
 /// The most bytes of a presentation.
 pub const PRESENTATION_BYTES: usize = 4_194_304;

@@ -1,6 +1,7 @@
 -- A span that holds a row and that each matrix carries into itself holds the row times the matrices of any list. And a span is
 -- carried into itself where the old one is and the images of the new rows lie in it.
-use Rattle.std.proofs.Common.{◌≡◌, ℕ, zero, suc, ◌+◌, ◌-◌, ◌<◌, ⊎_elim, List, [], ◌∷◌, ◌++◌, length, get_or, map, sym, subst, arith, length-append}
+use Rattle.std.proofs.Common.{◌≡◌, ℕ, zero, suc, ◌+◌, ◌-◌, ◌<◌, ⊎_elim, List, [], ◌∷◌, ◌++◌, length, get_or, map, sym, subst, arith}
+use Rattle.std.proofs.Common.{length-append}
 use Rattle.std.proofs.lemmas.Bool.{cases_lt}
 use Rattle.std.proofs.lemmas.List.{get_or_append_left, get_or-map, length-map}
 use Rattle.pq_base.specs.Elementary.{zeros}
@@ -29,14 +30,16 @@ module _ (p width : ℕ) (ms : List PrimeMatrix) (others : List (List ℕ)) (clo
       let first = are.0 in
       let last = are.1 in (
         InSpan-row_along s.along (get_or (entries_of rows) (s.row - 1) []) are.2
-            (EachInSpan-at p width others (entries_of rows) (s.row - 1) [] (omega (arith, length-map rows (λ (r : PrimeRow). r.entries))) each),
+            (EachInSpan-at p width others (entries_of rows) (s.row - 1) []
+            (omega (arith, length-map rows (λ (r : PrimeRow). r.entries))) each),
         EachInSpan-spun_rows rows names each are.3,
       )
 
 module _ (p width : ℕ) (some : 1 < p) (ms : List PrimeMatrix) (old more : List (List ℕ)) (are : AreRows p width (old ++ more)) where
   -- the images of old rows and of new ones
   pub InSpan-image : (e i : ℕ) → e < length ms → i < length (old ++ more) → IsClosed p width ms old
-      → ((j : ℕ) → j < length more → InSpan p width (old ++ more) (times_matrix p width (matrix_at ms (suc e)) (get_or (old ++ more) (length old + j) [])))
+      → ((j : ℕ) → j < length more
+      → InSpan p width (old ++ more) (times_matrix p width (matrix_at ms (suc e)) (get_or (old ++ more) (length old + j) [])))
       → InSpan p width (old ++ more) (times_matrix p width (matrix_at ms (suc e)) (get_or (old ++ more) i []))
   InSpan-image e i l h closed images =
       let m : List (List ℕ) = matrix_at ms (suc e) in
@@ -44,7 +47,8 @@ module _ (p width : ℕ) (some : 1 < p) (ms : List PrimeMatrix) (old more : List
       (λ older.
       subst (λ (x : List ℕ). InSpan p width (old ++ more) (times_matrix p width m x)) (sym (get_or_append_left old more [] i older))
       (InSpan-longer p width some old more are (times_matrix p width m (get_or old i []))
-      (closed e l (get_or old i []) (EachInSpan-at p width old old i [] older (EachInSpan-own p width old some (AreRows-front p width old more are))))))
+      (closed e l (get_or old i [])
+      (EachInSpan-at p width old old i [] older (EachInSpan-own p width old some (AreRows-front p width old more are))))))
       (λ newer.
       let place : length old + (i - length old) ≡ i = omega arith in
       subst (λ (k : ℕ). InSpan p width (old ++ more) (times_matrix p width m (get_or (old ++ more) k []))) place

@@ -1,5 +1,6 @@
 -- What is made of a basis, rows and matrices in the end is the closure.
-use Rattle.std.proofs.Common.{◌≡◌, ℕ, suc, ◌+◌, ◌<◌, List, [], ◌∷◌, ◌++◌, length, get_or, drop, refl, ap, ap₂, sym, ◌∙◌, subst, arith, length-append}
+use Rattle.std.proofs.Common.{◌≡◌, ℕ, suc, ◌+◌, ◌<◌, List, [], ◌∷◌, ◌++◌, length, get_or, drop, refl, ap, ap₂, sym, ◌∙◌, subst, arith}
+use Rattle.std.proofs.Common.{length-append}
 use Rattle.std.proofs.lemmas.List.{drop_at, drop_all, length-map}
 use Rattle.pq_base.specs.LPresentation.{AreEndoNumbers}
 use Rattle.fp_rows.specs.Row.{PrimeRow}
@@ -20,9 +21,11 @@ length-pivots_of [] = refl
 length-pivots_of (b ∷ bs) = ap (λ (n : ℕ). suc n) (length-pivots_of bs)
 
 -- the start: no names yet
-pub IsNamed-start : (rows : List PrimeRow) (ms : List PrimeMatrix) (w : Spinning) → w.older ≡ length w.basis.added → w.spun ≡ [] → IsNamed rows ms w
+pub IsNamed-start : (rows : List PrimeRow) (ms : List PrimeMatrix) (w : Spinning) → w.older ≡ length w.basis.added → w.spun ≡ []
+    → IsNamed rows ms w
 IsNamed-start rows ms w e none = record {
-  new_rows = drop_all w.older w.basis.added (omega arith) ∙ sym (ap (λ (l : List Spun). spun_rows w.basis.prime w.basis.width rows ms l) none);
+  new_rows =
+      drop_all w.older w.basis.added (omega arith) ∙ sym (ap (λ (l : List Spun). spun_rows w.basis.prime w.basis.width rows ms l) none);
   names = subst (λ (l : List Spun). AreNames (length rows) (length ms) l) (sym none) tt;
 }
 
@@ -54,7 +57,8 @@ IsMade-roomy B k given ms new spun made = record {
 -- from the start over the given rows to the end
 module _ (rows : List PrimeRow) (ms : List PrimeMatrix) (start taken end : Spinning)
     (first : IsBasis start.basis) (older : start.older ≡ length start.basis.added) (none : start.spun ≡ [])
-    (second : IsReady taken) (grown : HasGrown start taken) (given : EachInSpan start.basis.prime start.basis.width taken.basis.added (entries_of rows))
+    (second : IsReady taken) (grown : HasGrown start taken)
+    (given : EachInSpan start.basis.prime start.basis.width taken.basis.added (entries_of rows))
     (named : IsNamed rows ms taken → IsNamed rows ms end) (named-first : IsNamed rows ms start → IsNamed rows ms taken)
     (third : IsReady end) (grown-more : HasGrown taken end)
     (images : (i : ℕ) → i < length end.spun → ImagesInSpan ms end i)
@@ -95,7 +99,8 @@ module _ (rows : List PrimeRow) (ms : List PrimeMatrix) (start taken end : Spinn
       subst (λ (l : List (List ℕ)). InSpan p width l (times_matrix p width m (get_or l (length start.basis.added + j) []))) whole.added
       (subst (λ (k : ℕ). InSpan p width end.basis.added (times_matrix p width m (get_or end.basis.added (k + j) []))) (whole.older ∙ older)
       (subst (λ (v : ℕ). InSpan p v end.basis.added (times_matrix p v m (get_or end.basis.added (end.older + j) []))) whole.width
-      (subst (λ (q : ℕ). InSpan q end.basis.width end.basis.added (times_matrix q end.basis.width m (get_or end.basis.added (end.older + j) []))) whole.prime s)))
+      (subst (λ (q : ℕ). InSpan q end.basis.width end.basis.added
+      (times_matrix q end.basis.width m (get_or end.basis.added (end.older + j) []))) whole.prime s)))
 
   is_closed : IsClosed p width ms end.basis.added
   is_closed =
@@ -132,7 +137,8 @@ module _ (rows : List PrimeRow) (ms : List PrimeMatrix) (start taken end : Spinn
     closed = is_closed;
     images = λ i h s numbers.
         InSpan-row_along p width ms end.basis.added is_closed s (get_or (entries_of rows) i []) numbers
-        (EachInSpan-at p width end.basis.added (entries_of rows) i [] (omega (arith, length-map rows (λ (r : PrimeRow). r.entries))) rows_in_span);
+        (EachInSpan-at p width end.basis.added (entries_of rows) i []
+        (omega (arith, length-map rows (λ (r : PrimeRow). r.entries))) rows_in_span);
     least = λ others are old given-rows closed-others.
         subst (λ (l : List (List ℕ)). EachInSpan p width others l) (sym added_is)
         (EachInSpan-append p width others start.basis.added (spun_rows p width rows ms end.spun) old

@@ -1,5 +1,6 @@
 -- What stays where new rows come after those there were: places, spans and the images that lie in them.
-use Rattle.std.proofs.Common.{◌≡◌, ℕ, suc, ◌+◌, ◌<◌, ◌≤◌, ⊎_elim, List, [], ◌∷◌, ◌++◌, length, get_or, refl, ap, sym, ◌∙◌, subst, arith, append_assoc}
+use Rattle.std.proofs.Common.{◌≡◌, ℕ, suc, ◌+◌, ◌<◌, ◌≤◌, ⊎_elim, List, [], ◌∷◌, ◌++◌, length, get_or, refl, ap, sym, ◌∙◌, subst, arith}
+use Rattle.std.proofs.Common.{append_assoc}
 use Rattle.std.proofs.lemmas.List.{append-nil, get_or_append_left}
 use Rattle.fp_echelon.specs.Span.{AreRows, InSpan}
 use Rattle.fp_echelon.specs.Reduced.{pivots_of}
@@ -77,22 +78,30 @@ module _ (old new : Spinning) (basis : IsBasis new.basis) (grown : HasGrown old 
 
   -- an image of a new row, where it is in the span of the rows after more were added
   pub image-grown : (m : List (List ℕ)) (i : ℕ) → old.older + i < length old.basis.added
-      → InSpan old.basis.prime old.basis.width new.basis.added (times_matrix old.basis.prime old.basis.width m (get_or old.basis.added (old.older + i) []))
-      → InSpan new.basis.prime new.basis.width new.basis.added (times_matrix new.basis.prime new.basis.width m (get_or new.basis.added (new.older + i) []))
+      → InSpan old.basis.prime old.basis.width new.basis.added
+      (times_matrix old.basis.prime old.basis.width m (get_or old.basis.added (old.older + i) []))
+      → InSpan new.basis.prime new.basis.width new.basis.added
+      (times_matrix new.basis.prime new.basis.width m (get_or new.basis.added (new.older + i) []))
   image-grown m i h s =
       let place : get_or old.basis.added (old.older + i) [] ≡ get_or new.basis.added (new.older + i) [] =
       sym (get_or-grown (old.older + i) h) ∙ ap (λ (n : ℕ). get_or new.basis.added (n + i) []) (sym grown.older) in
-      subst (λ (q : ℕ). InSpan q new.basis.width new.basis.added (times_matrix q new.basis.width m (get_or new.basis.added (new.older + i) []))) (sym grown.prime)
+      subst (λ (q : ℕ). InSpan q new.basis.width new.basis.added
+      (times_matrix q new.basis.width m (get_or new.basis.added (new.older + i) []))) (sym grown.prime)
       (subst
-      (λ (v : ℕ). InSpan old.basis.prime v new.basis.added (times_matrix old.basis.prime v m (get_or new.basis.added (new.older + i) []))) (sym grown.width)
-      (subst (λ (x : List ℕ). InSpan old.basis.prime old.basis.width new.basis.added (times_matrix old.basis.prime old.basis.width m x)) place s))
+      (λ (v : ℕ). InSpan old.basis.prime v new.basis.added (times_matrix old.basis.prime v m (get_or new.basis.added (new.older + i) [])))
+      (sym grown.width)
+      (subst (λ (x : List ℕ). InSpan old.basis.prime old.basis.width new.basis.added (times_matrix old.basis.prime old.basis.width m x))
+      place s))
 
   pub image-kept : (m : List (List ℕ)) (i : ℕ) → old.older + i < length old.basis.added
-      → InSpan old.basis.prime old.basis.width old.basis.added (times_matrix old.basis.prime old.basis.width m (get_or old.basis.added (old.older + i) []))
-      → InSpan new.basis.prime new.basis.width new.basis.added (times_matrix new.basis.prime new.basis.width m (get_or new.basis.added (new.older + i) []))
+      → InSpan old.basis.prime old.basis.width old.basis.added
+      (times_matrix old.basis.prime old.basis.width m (get_or old.basis.added (old.older + i) []))
+      → InSpan new.basis.prime new.basis.width new.basis.added
+      (times_matrix new.basis.prime new.basis.width m (get_or new.basis.added (new.older + i) []))
   image-kept m i h s =
       image-grown m i h
       (InSpan-grown (times_matrix old.basis.prime old.basis.width m (get_or old.basis.added (old.older + i) [])) s)
 
-  pub ImagesInSpan-grown : (ms : List PrimeMatrix) (i : ℕ) → old.older + i < length old.basis.added → ImagesInSpan ms old i → ImagesInSpan ms new i
+  pub ImagesInSpan-grown : (ms : List PrimeMatrix) (i : ℕ) → old.older + i < length old.basis.added → ImagesInSpan ms old i
+      → ImagesInSpan ms new i
   ImagesInSpan-grown ms i h images e l = image-kept (matrix_at ms (suc e)) i h (images e l)

@@ -1,5 +1,6 @@
 -- A row that is offered under a name which says that row keeps each new row the one that its name says.
-use Rattle.std.proofs.Common.{◌≡◌, ℕ, zero, suc, ◌+◌, ◌-◌, ◌<◌, ◌≤◌, ⊎_elim, List, [], ◌∷◌, ◌++◌, length, get_or, drop, refl, ap, ap₂, sym, ◌∙◌, subst, arith}
+use Rattle.std.proofs.Common.{◌≡◌, ℕ, zero, suc, ◌+◌, ◌-◌, ◌<◌, ◌≤◌, ⊎_elim, List, [], ◌∷◌, ◌++◌, length, get_or, drop, refl, ap, ap₂, sym}
+use Rattle.std.proofs.Common.{◌∙◌, subst, arith}
 use Rattle.std.proofs.lemmas.List.{get_or-drop, get_or-map, drop-append-le}
 use Rattle.pq_base.specs.LPresentation.{AreEndoNumbers}
 use Rattle.fp_rows.specs.Row.{PrimeRow}
@@ -25,11 +26,13 @@ AreNames-at n m (s ∷ names) zero d h are = record { first = are.0; last = are.
 AreNames-at n m (s ∷ names) (suc i) d h are = AreNames-at n m names i d (omega arith) are.3
 
 module _ (p width : ℕ) (rows : List PrimeRow) (ms : List PrimeMatrix) where
-  spun_rows-push : (names : List Spun) (s : Spun) → spun_rows p width rows ms (names ++ s ∷ []) ≡ spun_rows p width rows ms names ++ spun_row p width rows ms s ∷ []
+  spun_rows-push : (names : List Spun) (s : Spun)
+      → spun_rows p width rows ms (names ++ s ∷ []) ≡ spun_rows p width rows ms names ++ spun_row p width rows ms s ∷ []
   spun_rows-push [] s = refl
   spun_rows-push (t ∷ names) s = ap (λ (l : List (List ℕ)). spun_row p width rows ms t ∷ l) (spun_rows-push names s)
 
-  spun_rows-at : (names : List Spun) (i : ℕ) (d : Spun) → i < length names → get_or (spun_rows p width rows ms names) i [] ≡ spun_row p width rows ms (get_or names i d)
+  spun_rows-at : (names : List Spun) (i : ℕ) (d : Spun) → i < length names
+      → get_or (spun_rows p width rows ms names) i [] ≡ spun_row p width rows ms (get_or names i d)
   spun_rows-at [] i d h = absurd (omega arith)
   spun_rows-at (s ∷ names) zero d h = refl
   spun_rows-at (s ∷ names) (suc i) d h = spun_rows-at names i d (omega arith)
@@ -40,7 +43,8 @@ module _ (p width : ℕ) (rows : List PrimeRow) (ms : List PrimeMatrix) where
 
 module _ (rows : List PrimeRow) (ms : List PrimeMatrix) where
   -- the names stay where the basis and the list do
-  renamed : (old new : Spinning) → new.older ≡ old.older → new.basis ≡ old.basis → new.spun ≡ old.spun → IsNamed rows ms old → IsNamed rows ms new
+  renamed : (old new : Spinning) → new.older ≡ old.older → new.basis ≡ old.basis → new.spun ≡ old.spun → IsNamed rows ms old
+      → IsNamed rows ms new
   renamed old new e b n named = record {
     new_rows =
         ap₂ (λ (k : ℕ) (c : Echelon). drop k c.added) e b
@@ -72,7 +76,8 @@ module _ (rows : List PrimeRow) (ms : List PrimeMatrix) where
       (λ left. renamed old new offered.older left.basis left.spun named) offered.step
 
   -- the name of an image: one matrix more
-  pub name_of_image : (w : Spinning) (i n : ℕ) (m : PrimeMatrix) (s : Spun) → IsReady w → IsNamed rows ms w → i < length w.spun → n < length ms
+  pub name_of_image : (w : Spinning) (i n : ℕ) (m : PrimeMatrix) (s : Spun) → IsReady w → IsNamed rows ms w → i < length w.spun
+      → n < length ms
       → m ≡ get_or ms n m → m.prime ≡ w.basis.prime → m.width ≡ w.basis.width
       → s ≡ record { row = (get_or w.spun i no_spun).row; along = suc n ∷ (get_or w.spun i no_spun).along }
       → IsName (length rows) (length ms) s
@@ -88,18 +93,21 @@ module _ (rows : List PrimeRow) (ms : List PrimeMatrix) where
       ∙ spun_rows-at p width rows ms w.spun i no_spun h in
       let matrix : m.rows ≡ matrix_at ms (suc n) =
       ap (λ (a : PrimeMatrix). a.rows) e ∙ sym (get_or-map (λ (a : PrimeMatrix). a.rows) ms n m [] l) in (
-        subst (λ (t : Spun). IsName (length rows) (length ms) t) (sym name) (record { first = is.first; last = is.last; along = (l, is.along) }),
+        subst (λ (t : Spun). IsName (length rows) (length ms) t) (sym name)
+            (record { first = is.first; last = is.last; along = (l, is.along) }),
         ap₂ (λ (q v : ℕ). times_matrix q v m.rows (get_or w.basis.added (w.older + i) [])) prime wide
             ∙ ap₂ (times_matrix p width) matrix row
             ∙ ap (λ (t : Spun). spun_row p width rows ms t) (sym name),
       )
 
   -- the name of a given row
-  pub name_of_row : (p width n : ℕ) (r : PrimeRow) (s : Spun) → n < length rows → r ≡ get_or rows n r → s ≡ record { row = n + 1; along = [] }
+  pub name_of_row : (p width n : ℕ) (r : PrimeRow) (s : Spun) → n < length rows → r ≡ get_or rows n r
+      → s ≡ record { row = n + 1; along = [] }
       → IsName (length rows) (length ms) s × (r.entries ≡ spun_row p width rows ms s)
   name_of_row p width n r s h e name =
       let place : n + 1 - 1 ≡ n = omega arith in (
-        subst (λ (t : Spun). IsName (length rows) (length ms) t) (sym name) (record { first = omega arith; last = omega arith; along = tt }),
+        subst (λ (t : Spun). IsName (length rows) (length ms) t) (sym name)
+            (record { first = omega arith; last = omega arith; along = tt }),
         ap (λ (q : PrimeRow). q.entries) e
             ∙ sym (get_or-map (λ (q : PrimeRow). q.entries) rows n r [] h)
             ∙ ap (λ (k : ℕ). get_or (entries_of rows) k []) (sym place)

@@ -14,8 +14,10 @@ module _ (older : ℕ) (b d : Echelon) (names : List Spun) (image after : PrimeR
     (basis : IsBasis d) (prime : d.prime ≡ b.prime) (width : d.width ≡ b.width)
     (room : length d.added + d.spare ≡ length b.added + b.spare) (in_span : InSpan b.prime b.width d.added x)
     (same_prime : after.prime ≡ image.prime) (same_width : length after.entries ≡ length image.entries) where
-  pub offered-taken : (c : ℕ) (more : List Spun) → d.added ≡ b.added ++ x ∷ [] → pivots_of d.rows ≡ pivots_of b.rows ++ c ∷ [] → more ≡ names ++ s ∷ []
-      → IsOffered x s (record { older = older; basis = b; spun = names; image = image }) (record { older = older; basis = d; spun = more; image = after })
+  pub offered-taken : (c : ℕ) (more : List Spun) → d.added ≡ b.added ++ x ∷ [] → pivots_of d.rows ≡ pivots_of b.rows ++ c ∷ []
+      → more ≡ names ++ s ∷ []
+      → IsOffered x s (record { older = older; basis = b; spun = names; image = image })
+      (record { older = older; basis = d; spun = more; image = after })
   offered-taken c more added pivots named =
       let count = ready.count in
       let before = ready.room in
@@ -37,7 +39,8 @@ module _ (older : ℕ) (b d : Echelon) (names : List Spun) (image after : PrimeR
       }
 
   pub offered-left_out : d ≡ b
-      → IsOffered x s (record { older = older; basis = b; spun = names; image = image }) (record { older = older; basis = d; spun = names; image = after })
+      → IsOffered x s (record { older = older; basis = b; spun = names; image = image })
+      (record { older = older; basis = d; spun = names; image = after })
   offered-left_out same =
       let before = ready.room in
       let count : older + length names ≡ length d.added = ready.count ∙ ap (λ (e : Echelon). length e.added) (sym same) in

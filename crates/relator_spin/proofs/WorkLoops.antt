@@ -1,5 +1,6 @@
 -- The three loops of a closure: over the given rows, over the matrices for one new row, and over the new rows.
-use Rattle.std.proofs.Common.{◌≡◌, ℕ, zero, suc, ◌+◌, ◌<◌, ◌≤◌, ⊎_elim, List, [], ◌∷◌, length, get_or, ap, ap₂, sym, ◌∙◌, subst, arith, length-append}
+use Rattle.std.proofs.Common.{◌≡◌, ℕ, zero, suc, ◌+◌, ◌<◌, ◌≤◌, ⊎_elim, List, [], ◌∷◌, length, get_or, ap, ap₂, sym, ◌∙◌, subst, arith}
+use Rattle.std.proofs.Common.{length-append}
 use Rattle.std.proofs.lemmas.Bool.{cases_lt}
 use Rattle.std.proofs.lemmas.List.{get_or-map, length-map}
 use Rattle.fp_rows.specs.Row.{PrimeRow}
@@ -9,14 +10,16 @@ use Rattle.relator_spin.specs.declared.spun.Spun.{Spun}
 use Rattle.relator_spin.specs.Closure.{AreOver, AreMatricesOver, matrix_at}
 use Rattle.relator_spin.specs.Spinning.{Spinning, IsReady, IsNamed, no_spun, IsOffered, HasGrown, ImagesInSpan}
 use Rattle.relator_spin.proofs.SpanParts.{EachInSpan-by_place}
-use Rattle.relator_spin.proofs.GrownWork.{HasGrown-self, HasGrown-trans, HasGrown-offered, InSpan-grown, image-grown, image-kept, ImagesInSpan-grown}
+use Rattle.relator_spin.proofs.GrownWork.{HasGrown-self, HasGrown-trans, HasGrown-offered, InSpan-grown, image-grown, image-kept}
+use Rattle.relator_spin.proofs.GrownWork.{ImagesInSpan-grown}
 use Rattle.relator_spin.proofs.NamedWork.{IsNamed-offered, name_of_image, name_of_row}
 
 pub record IsOver (p width : ℕ) (r : PrimeRow) : Type 0 where
   pub prime : r.prime ≡ p
   pub wide : length r.entries ≡ width
 
-pub AreOver-at : (p width : ℕ) (rows : List PrimeRow) (i : ℕ) (d : PrimeRow) → i < length rows → AreOver p width rows → IsOver p width (get_or rows i d)
+pub AreOver-at : (p width : ℕ) (rows : List PrimeRow) (i : ℕ) (d : PrimeRow) → i < length rows → AreOver p width rows
+    → IsOver p width (get_or rows i d)
 AreOver-at p width [] i d h are = absurd (omega arith)
 AreOver-at p width (r ∷ rows) zero d h are = record { prime = are.0; wide = are.1 }
 AreOver-at p width (r ∷ rows) (suc i) d h are = AreOver-at p width rows i d (omega arith) are.2
@@ -55,7 +58,8 @@ at_start old w rows x grown s =
 from_start : (old w : Spinning) (rows : List (List ℕ)) (x : List ℕ) → HasGrown old w → InSpan old.basis.prime old.basis.width rows x
     → InSpan w.basis.prime w.basis.width rows x
 from_start old w rows x grown s =
-    subst (λ (q : ℕ). InSpan q w.basis.width rows x) (sym grown.prime) (subst (λ (v : ℕ). InSpan old.basis.prime v rows x) (sym grown.width) s)
+    subst (λ (q : ℕ). InSpan q w.basis.width rows x) (sym grown.prime)
+    (subst (λ (v : ℕ). InSpan old.basis.prime v rows x) (sym grown.width) s)
 
 -- a row in the span stays there
 pub kept_in_span : (old w new : Spinning) (x : List ℕ) → HasGrown old w → IsReady new → HasGrown w new
@@ -98,7 +102,8 @@ pub record ImagesTaken (ms : List PrimeMatrix) (old w : Spinning) (place n : ℕ
   pub named : (rows : List PrimeRow) → IsNamed rows ms old → IsNamed rows ms w
   pub more : length old.spun ≤ length w.spun
   pub images : (e : ℕ) → e < n
-      → InSpan w.basis.prime w.basis.width w.basis.added (times_matrix w.basis.prime w.basis.width (matrix_at ms (suc e)) (get_or w.basis.added (w.older + place) []))
+      → InSpan w.basis.prime w.basis.width w.basis.added
+      (times_matrix w.basis.prime w.basis.width (matrix_at ms (suc e)) (get_or w.basis.added (w.older + place) []))
 
 pub ImagesTaken-none : (ms : List PrimeMatrix) (w : Spinning) (place : ℕ) → IsReady w → ImagesTaken ms w w place 0
 ImagesTaken-none ms w place ready = record {

@@ -111,7 +111,8 @@ impl Work {
         requires place { place < length self.old.spun }
         requires prime { matrix.now.prime ≡ self.old.basis.prime }
         requires width { matrix.now.width ≡ self.old.basis.width }
-        ensures { let x = times_matrix matrix.now.prime matrix.now.width matrix.now.rows (get_or self.old.basis.added (self.old.older + place) []) in
+        ensures { let x =
+            times_matrix matrix.now.prime matrix.now.width matrix.now.rows (get_or self.old.basis.added (self.old.older + place) []) in
             let parent = get_or self.old.spun place no_spun in
             OnOk result (IsOffered x (record { row = parent.row; along = number ∷ parent.along }) self.old self.new) }
     {

@@ -1,5 +1,6 @@
 -- The items of a presentation in canonical order are its relators and endomorphisms.
-use Rattle.std.proofs.Common.{◌≡◌, ◌<◌, ◌+◌, ℕ, zero, suc, List, [], ◌∷◌, ◌++◌, get_or, length, map, true, false, eqb, refl, ap, ◌∙◌, arith, append-nil}
+use Rattle.std.proofs.Common.{◌≡◌, ◌<◌, ◌+◌, ℕ, zero, suc, List, [], ◌∷◌, ◌++◌, get_or, length, map, true, false, eqb, refl, ap, ◌∙◌, arith}
+use Rattle.std.proofs.Common.{append-nil}
 use Rattle.std.specs.Prelude.{ℤ}
 use Rattle.std.proofs.lemmas.Bool.{cond-true, cond-false}
 use Rattle.std.proofs.lemmas.Bool.Decides.{nat_tests}
@@ -77,7 +78,8 @@ words_from-before : (k i : ℕ) (ws : List (List ℤ)) → k < i → words_from 
 words_from-before k i [] h = refl
 words_from-before k i (w ∷ ws) h =
     let other : eqb i k ≡ false = grind (arith, nat_tests) in
-    cond-false (eqb i k) (w ∷ words_from k (mappings_from (suc i) ws)) (words_from k (mappings_from (suc i) ws)) other ∙ words_from-before k (suc i) ws (omega arith)
+    cond-false (eqb i k) (w ∷ words_from k (mappings_from (suc i) ws)) (words_from k (mappings_from (suc i) ws)) other
+    ∙ words_from-before k (suc i) ws (omega arith)
 
 words_from-place : (k i j : ℕ) (ws : List (List ℤ)) → k ≡ i + j → j < length ws → words_from k (mappings_from i ws) ≡ get_or ws j [] ∷ []
 words_from-place k i j [] e h = absurd (omega arith)

@@ -20,7 +20,8 @@ number_text-push : (ds : List ℕ) (b : ℕ) → is_number_text ds ≡ true → 
 number_text-push [] b h d = and_from (is_ascii_digit b) true d refl
 number_text-push (c ∷ ds) b h d =
     let parts = and_parts (is_ascii_digit c) (list_all is_ascii_digit ds) h in
-    and_from (is_ascii_digit c) _ parts.0 (list_all-append is_ascii_digit ds (b ∷ []) ∙ and_from (list_all is_ascii_digit ds) _ parts.1 (and_from (is_ascii_digit b) true d refl))
+    and_from (is_ascii_digit c) _ parts.0
+    (list_all-append is_ascii_digit ds (b ∷ []) ∙ and_from (list_all is_ascii_digit ds) _ parts.1 (and_from (is_ascii_digit b) true d refl))
 
 pub IsNumberText-decimal : (n : ℕ) → n < 2 ^ 64 → IsNumberText (decimal n)
 IsNumberText-decimal n h =

@@ -1,5 +1,6 @@
 -- The runs of a word, written out, are the word.
-use Rattle.std.proofs.Common.{◌≡◌, ◌≤◌, ◌+◌, ℕ, zero, suc, Bool, true, false, List, [], ◌∷◌, ◌++◌, length, refl, sym, ap, ◌∙◌, arith, length-append}
+use Rattle.std.proofs.Common.{◌≡◌, ◌≤◌, ◌+◌, ℕ, zero, suc, Bool, true, false, List, [], ◌∷◌, ◌++◌, length, refl, sym, ap, ◌∙◌, arith}
+use Rattle.std.proofs.Common.{length-append}
 use Rattle.std.specs.Prelude.{ℤ}
 use Rattle.std.specs.Ordering.{int_eq}
 use Rattle.std.proofs.lemmas.Bool.Decides.{Decides-int_eq}
@@ -33,7 +34,8 @@ spread-runs_of (k ∷ w) = spread-onto_runs k (runs_of w) ∙ ap (λ (v : List �
 
 length-spread : (rs : List Run) → length (spread rs) ≡ sizes rs
 length-spread [] = refl
-length-spread (r ∷ rs) = omega (arith, length-append (copies (r.letter ∷ []) r.size) (spread rs), length-copies_of r.letter r.size, length-spread rs)
+length-spread (r ∷ rs) =
+    omega (arith, length-append (copies (r.letter ∷ []) r.size) (spread rs), length-copies_of r.letter r.size, length-spread rs)
 
 pub sizes-runs_of : (w : List ℤ) → sizes (runs_of w) ≡ length w
 sizes-runs_of w = sym (length-spread (runs_of w)) ∙ ap (λ (v : List ℤ). length v) (spread-runs_of w)

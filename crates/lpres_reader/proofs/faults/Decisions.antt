@@ -1,5 +1,7 @@
 -- The tests tell what is asked of a line: brackets, tokens, known names, distinct names.
-use Rattle.std.proofs.Common.{◌≡◌, ◌≤◌, ◌<◌, ℕ, zero, suc, ◌+◌, Bool, true, false, cond, eqb, List, [], ◌∷◌, length, length-drop, take, get_or, count_by, Option, Some, None, refl, sym, ap, subst, ◌∙◌, arith, ◌&&◌, nat_le, leb-true, le-leb, is_some, is_none, option_map, MatchOption, Decides}
+use Rattle.std.proofs.Common.{◌≡◌, ◌≤◌, ◌<◌, ℕ, zero, suc, ◌+◌, Bool, true, false, cond, eqb, List, [], ◌∷◌, length, length-drop, take}
+use Rattle.std.proofs.Common.{get_or, count_by, Option, Some, None, refl, sym, ap, subst, ◌∙◌, arith, ◌&&◌, nat_le, leb-true, le-leb}
+use Rattle.std.proofs.Common.{is_some, is_none, option_map, MatchOption, Decides}
 use Rattle.std.specs.List.{prefix_len}
 use Rattle.std.specs.Char.{is_ascii_digit}
 use Rattle.std.proofs.lemmas.Bool.{cond_both, cond-true, or_left, and_parts, and_from, true≢false}
@@ -11,7 +13,8 @@ use Rattle.lpres_reader.specs.declared.token.Symbol.{Symbol}
 use Rattle.lpres_reader.specs.declared.token.Symbol.TheVariants.{Arrow, Minus}
 use Rattle.lpres_reader.specs.Lines.{is_blank, is_opening, is_closing, IsShallow}
 use Rattle.lpres_reader.specs.Tokens.{Token, name, number, symbol, ReadsTokens}
-use Rattle.lpres_reader.specs.Front.{Front, line_end, no_token, token_first, symbol_of, front_at_symbol, front_at_minus, front_at_run, front_of}
+use Rattle.lpres_reader.specs.Front.{Front, line_end, no_token, token_first, symbol_of, front_at_symbol, front_at_minus, front_at_run}
+use Rattle.lpres_reader.specs.Front.{front_of}
 use Rattle.lpres_reader.specs.Trees.{place_of, AreKnown}
 use Rattle.lpres_reader.specs.Verdicts.{one_if, shallow_from, is_shallow, tokens_at, tokens_within, tokens_of, are_known, are_distinct}
 use Rattle.lpres_reader.proofs.texts.FrontLemmas.{Follows, follows, tells}
@@ -38,22 +41,28 @@ pub shallow_nil : (o m n : ℕ) → o ≤ m → count_by is_opening (take n []) 
 shallow_nil o m zero h = omega arith
 shallow_nil o m (suc n) h = omega arith
 
-pub shallow_cons : (b : ℕ) (line : List ℕ) (o m : ℕ) → o ≤ m → ShallowFrom (one_if (is_opening b) + o) (one_if (is_closing b) + m) line → ShallowFrom o m (b ∷ line)
+pub shallow_cons : (b : ℕ) (line : List ℕ) (o m : ℕ) → o ≤ m → ShallowFrom (one_if (is_opening b) + o) (one_if (is_closing b) + m) line
+    → ShallowFrom o m (b ∷ line)
 shallow_cons b line o m h rest zero = omega arith
 shallow_cons b line o m h rest (suc n) =
     subst (λ (x : ℕ). x + o ≤ count_by is_closing (take (suc n) (b ∷ line)) + m) (sym (count_step is_opening b line n))
     (subst (λ (y : ℕ). (one_if (is_opening b) + count_by is_opening (take n line)) + o ≤ y + m) (sym (count_step is_closing b line n))
-    (moved (one_if (is_opening b)) (one_if (is_closing b)) (count_by is_opening (take n line)) (count_by is_closing (take n line)) o m (rest n)))
+    (moved (one_if (is_opening b)) (one_if (is_closing b)) (count_by is_opening (take n line)) (count_by is_closing (take n line)) o m
+    (rest n)))
 
-pub shallow_tail : (b : ℕ) (line : List ℕ) (o m : ℕ) → ShallowFrom o m (b ∷ line) → ShallowFrom (one_if (is_opening b) + o) (one_if (is_closing b) + m) line
+pub shallow_tail : (b : ℕ) (line : List ℕ) (o m : ℕ) → ShallowFrom o m (b ∷ line)
+    → ShallowFrom (one_if (is_opening b) + o) (one_if (is_closing b) + m) line
 shallow_tail b line o m h n =
     moved_back (one_if (is_opening b)) (one_if (is_closing b)) (count_by is_opening (take n line)) (count_by is_closing (take n line)) o m
     (subst (λ (x : ℕ). x + o ≤ (one_if (is_closing b) + count_by is_closing (take n line)) + m) (count_step is_opening b line n)
     (subst (λ (y : ℕ). count_by is_opening (take (suc n) (b ∷ line)) + o ≤ y + m) (count_step is_closing b line n) (h (suc n))))
 
 shallow_from-Decides : (line : List ℕ) (o m : ℕ) → Decides (shallow_from o m line) (ShallowFrom o m line)
-shallow_from-Decides [] o m =
-    (λ e n. shallow_nil o m n (leb-true o m e), λ h. let first : count_by is_opening [] + o ≤ count_by is_closing [] + m = h 0 in le-leb o m (omega arith))
+shallow_from-Decides [] o m = (
+  λ e n. shallow_nil o m n (leb-true o m e),
+  λ h. let first : count_by is_opening [] + o ≤ count_by is_closing [] + m = h 0 in
+      le-leb o m (omega arith),
+)
 shallow_from-Decides (b ∷ line) o m =
     let rest = shallow_from-Decides line (one_if (is_opening b) + o) (one_if (is_closing b) + m) in (
       λ e. let both = and_parts (nat_le o m) (shallow_from (one_if (is_opening b) + o) (one_if (is_closing b) + m) line) e in
@@ -73,7 +82,8 @@ LeavesLess n line_end = Unit {0}
 LeavesLess n no_token = Unit {0}
 LeavesLess n (token_first t rest) = length rest < n
 
-run_leaves_less : (token : List ℕ → Token) (test : ℕ → Bool) (b : ℕ) (rest : List ℕ) → test b ≡ true → LeavesLess (length (b ∷ rest)) (front_at_run token test (b ∷ rest))
+run_leaves_less : (token : List ℕ → Token) (test : ℕ → Bool) (b : ℕ) (rest : List ℕ) → test b ≡ true
+    → LeavesLess (length (b ∷ rest)) (front_at_run token test (b ∷ rest))
 run_leaves_less token test b rest e =
     let long : prefix_len test (b ∷ rest) ≡ 1 + prefix_len test rest = cond-true (test b) (1 + prefix_len test rest) 0 e in
     omega (arith, length-drop (prefix_len test (b ∷ rest)) (b ∷ rest))
@@ -84,7 +94,9 @@ symbol_leaves_less (Some s) rest n h = h
 
 minus_leaves_less : (rest : List ℕ) (n : ℕ) → length rest < n → LeavesLess n (front_at_minus rest)
 minus_leaves_less [] n h = h
-minus_leaves_less (b ∷ rest) n h = cond_both (eqb b 62) (token_first (symbol Arrow) rest) (token_first (symbol Minus) (b ∷ rest)) (LeavesLess n) (λ e. omega arith) (λ e. h)
+minus_leaves_less (b ∷ rest) n h =
+    cond_both (eqb b 62) (token_first (symbol Arrow) rest) (token_first (symbol Minus) (b ∷ rest)) (LeavesLess n) (λ e. omega arith)
+    (λ e. h)
 
 front_leaves_less : (line : List ℕ) → LeavesLess (length line) (front_of line)
 front_leaves_less [] = tt
@@ -114,11 +126,13 @@ front_leaves_less (b ∷ rest) =
 abbrev pub AreTokens : List ℕ → Option (List Token) → Type 0
 AreTokens line o = MatchOption o ((ts : List Token) → ReadsTokens line ts → ⊥) (ReadsTokens line)
 
-pub token_found : (line : List ℕ) (t : Token) (rest : List ℕ) (o : Option (List Token)) → front_of line ≡ token_first t rest → AreTokens rest o → AreTokens line (option_map (λ ts. t ∷ ts) o)
+pub token_found : (line : List ℕ) (t : Token) (rest : List ℕ) (o : Option (List Token)) → front_of line ≡ token_first t rest
+    → AreTokens rest o → AreTokens line (option_map (λ ts. t ∷ ts) o)
 token_found line t rest None e never = λ ts d. let after = subst (λ (f : Front). Follows f ts) e (follows d) in never after.0 after.2
 token_found line t rest (Some ts) e d = tells line (t ∷ ts) (subst (λ (f : Front). Follows f (t ∷ ts)) (sym e) (ts, refl, d))
 
-tokens_found : (line : List ℕ) (more : List ℕ → Option (List Token)) (f : Front) → front_of line ≡ f → ((t : Token) (rest : List ℕ) → f ≡ token_first t rest → AreTokens rest (more rest)) → AreTokens line (tokens_at more f)
+tokens_found : (line : List ℕ) (more : List ℕ → Option (List Token)) (f : Front) → front_of line ≡ f
+    → ((t : Token) (rest : List ℕ) → f ≡ token_first t rest → AreTokens rest (more rest)) → AreTokens line (tokens_at more f)
 tokens_found line more line_end e rest = tells line [] (subst (λ (f : Front). Follows f []) (sym e) refl)
 tokens_found line more no_token e rest = λ ts d. subst (λ (f : Front). Follows f ts) e (follows d)
 tokens_found line more (token_first t r) e rest = token_found line t r (more r) e (rest t r refl)
@@ -127,7 +141,8 @@ tokens_within-found : (n : ℕ) (line : List ℕ) → length line ≤ n → AreT
 tokens_within-found zero line small = tokens_found line (λ rest. None) (front_of line) refl (λ t rest e. absurd (
     let less : length rest < length line = subst (LeavesLess (length line)) e (front_leaves_less line) in omega arith))
 tokens_within-found (suc n) line small = tokens_found line (tokens_within n) (front_of line) refl (λ t rest e.
-    let less : length rest < length line = subst (LeavesLess (length line)) e (front_leaves_less line) in tokens_within-found n rest (omega arith))
+    let less : length rest < length line = subst (LeavesLess (length line)) e (front_leaves_less line) in
+    tokens_within-found n rest (omega arith))
 
 pub tokens_of-found : (line : List ℕ) → AreTokens line (tokens_of line)
 tokens_of-found line = tokens_within-found (length line) line (omega arith)
@@ -147,7 +162,8 @@ pub are_known-Decides : (names : List (List ℕ)) (ts : List Token) → Decides 
 are_known-Decides names [] = (λ e. tt, λ h. refl)
 are_known-Decides names (number digits ∷ ts) = are_known-Decides names ts
 are_known-Decides names (symbol s ∷ ts) = are_known-Decides names ts
-are_known-Decides names (name n ∷ ts) = Decides-and (is_some (place_of names n)) (are_known names ts) (is_known-Decides names n) (are_known-Decides names ts)
+are_known-Decides names (name n ∷ ts) =
+    Decides-and (is_some (place_of names n)) (are_known names ts) (is_known-Decides names n) (are_known-Decides names ts)
 
 distinct_cons : (n : List ℕ) (ns : List (List ℕ)) → place_of ns n ≡ None → AreDistinct ns → AreDistinct (n ∷ ns)
 distinct_cons n ns e d zero zero lt short same = omega arith
@@ -159,6 +175,11 @@ pub are_distinct-Decides : (names : List (List ℕ)) → Decides (are_distinct n
 are_distinct-Decides [] = (λ e i j lt short. absurd (omega arith), λ h. refl)
 are_distinct-Decides (n ∷ ns) = by (place_of ns n) refl (are_distinct-Decides ns)
   where
-    by : (o : Option ℕ) → place_of ns n ≡ o → Decides (are_distinct ns) (AreDistinct ns) → Decides (is_none o && are_distinct ns) (AreDistinct (n ∷ ns))
-    by (Some k) e rest = (λ t. absurd (true≢false (sym t)), λ h. let at = place_of-Some ns n k e in absurd (h 0 (suc k) (omega arith) (omega (arith, at.0)) (sym at.1)))
+    by : (o : Option ℕ) → place_of ns n ≡ o → Decides (are_distinct ns) (AreDistinct ns)
+        → Decides (is_none o && are_distinct ns) (AreDistinct (n ∷ ns))
+    by (Some k) e rest = (
+      λ t. absurd (true≢false (sym t)),
+      λ h. let at = place_of-Some ns n k e in
+          absurd (h 0 (suc k) (omega arith) (omega (arith, at.0)) (sym at.1)),
+    )
     by None e rest = (λ t. distinct_cons n ns e (rest.0 t), λ h. rest.1 (λ i j lt short. h (suc i) (suc j) (omega arith) (omega arith)))

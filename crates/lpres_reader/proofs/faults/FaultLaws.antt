@@ -1,5 +1,6 @@
 -- Of what is asked in order the first that fails decides: so there is at most one fault, and none where all holds.
-use Rattle.std.proofs.Common.{◌≡◌, ◌<◌, List, [], ◌∷◌, ◌++◌, refl, sym, ap, subst, ◌∙◌, ◌⊎◌, inl, inr, arith, nat_le, leb-true, leb-false, Option, Some, None, MatchOption}
+use Rattle.std.proofs.Common.{◌≡◌, ◌<◌, List, [], ◌∷◌, ◌++◌, refl, sym, ap, subst, ◌∙◌, ◌⊎◌, inl, inr, arith, nat_le, leb-true, leb-false}
+use Rattle.std.proofs.Common.{Option, Some, None, MatchOption}
 use Rattle.std.proofs.lemmas.Bool.{cond_both}
 use Rattle.lpres_reader.specs.Trials.{Trial, Keeps, AreKept, most, IsFirstPassed, reported}
 use Rattle.lpres_reader.specs.Verdicts.{first_passed}
@@ -61,7 +62,8 @@ pub passed_not_kept : (ts : List Trial) (t : Trial) → IsFirstPassed ts t → A
 passed_not_kept ts t p h = kept_not_passed ts t h (passed_at ts p.before p.after t p.place p.kept p.passed)
 
 pub passed_unique : (ts : List Trial) (t u : Trial) → IsFirstPassed ts t → IsFirstPassed ts u → t ≡ u
-passed_unique ts t u p q = passed_alike ts t u (passed_at ts p.before p.after t p.place p.kept p.passed) (passed_at ts q.before q.after u q.place q.kept q.passed)
+passed_unique ts t u p q =
+    passed_alike ts t u (passed_at ts p.before p.after t p.place p.kept p.passed) (passed_at ts q.before q.after u q.place q.kept q.passed)
 
 module _ (P : Type 0) (kind : Kind) (Next : P → Kind → Type 0) where
   pub Unless-unique : (k l : Kind) → ((p q : P) → Next p k → Next q l → k ≡ l) → Unless P kind Next k → Unless P kind Next l → k ≡ l
@@ -77,7 +79,8 @@ module _ (P : Type 0) (kind : Kind) (Next : P → Kind → Type 0) where
 
 module _ (trials : List Trial) (Next : Kind → Type 0) where
   pub UnlessPassed-unique : (k l : Kind) → (Next k → Next l → k ≡ l) → UnlessPassed trials Next k → UnlessPassed trials Next l → k ≡ l
-  UnlessPassed-unique k l next (passed t p e) (passed u q f) = e ∙ ap (λ (s : Trial). Limit s.limit (reported s.limit s.size)) (passed_unique trials t u p q) ∙ sym f
+  UnlessPassed-unique k l next (passed t p e) (passed u q f) =
+      e ∙ ap (λ (s : Trial). Limit s.limit (reported s.limit s.size)) (passed_unique trials t u p q) ∙ sym f
   UnlessPassed-unique k l next (passed t p e) (kept h n) = absurd (passed_not_kept trials t p h)
   UnlessPassed-unique k l next (kept h n) (passed u q f) = absurd (passed_not_kept trials u q h)
   UnlessPassed-unique k l next (kept h n) (kept g m) = next n m

@@ -11,7 +11,8 @@ use Rattle.lpres_reader.specs.Trees.{ItemTree, relators, arrows, arrow_meaning, 
 use Rattle.lpres_reader.specs.Trials.{AreKept, item_trials, names_trials, added}
 use Rattle.lpres_reader.specs.Verdicts.{bare}
 use Rattle.lpres_reader.specs.Makes.{MakesNames, MakesItem, Makes}
-use Rattle.lpres_reader.specs.Faults.{Kind, Deep, Syntax, UnknownName, RepeatedName, NotAllImages, Unless, UnlessPassed, NoOther, NamesForm, ItemForm, NamesFault, ItemFault, LineFault}
+use Rattle.lpres_reader.specs.Faults.{Kind, Deep, Syntax, UnknownName, RepeatedName, NotAllImages, Unless, UnlessPassed, NoOther, NamesForm}
+use Rattle.lpres_reader.specs.Faults.{ItemForm, NamesFault, ItemFault, LineFault}
 use Rattle.lpres_reader.proofs.texts.FrontLemmas.{tokens_unique}
 use Rattle.lpres_reader.proofs.trees.ParserReads.{item_tokens_unique}
 use Rattle.lpres_reader.proofs.trees.TreeItems.{item_of}
@@ -61,11 +62,14 @@ meaning_unique : (names : List (List ℕ)) (i : ItemTree) (g h : GivesAll names 
 meaning_unique names (relators s rs r) g h = refl
 meaning_unique names (arrows qs q) g h = ap endo (images_unique (length names) (map (arrow_meaning names) (qs ++ q ∷ [])) g.0 h.0 g.1 h.1)
 
-meaning_alike : (names : List (List ℕ)) (i j : ItemTree) → i ≡ j → (g : GivesAll names i) (h : GivesAll names j) → item_meaning names i g ≡ item_meaning names j h
-meaning_alike names i j e g = subst (λ (t : ItemTree). (h : GivesAll names t) → item_meaning names i g ≡ item_meaning names t h) e (λ h. meaning_unique names i g h)
+meaning_alike : (names : List (List ℕ)) (i j : ItemTree) → i ≡ j → (g : GivesAll names i) (h : GivesAll names j)
+    → item_meaning names i g ≡ item_meaning names j h
+meaning_alike names i j e g =
+    subst (λ (t : ItemTree). (h : GivesAll names t) → item_meaning names i g ≡ item_meaning names t h) e (λ h. meaning_unique names i g h)
 
 -- a line is at most one tree
-tree_unique : (line : List ℕ) (ts : List Token) (i j : ItemTree) → ReadsTokens line ts → ts ≡ item_tokens i → ReadsTokens line (item_tokens j) → i ≡ j
+tree_unique : (line : List ℕ) (ts : List Token) (i j : ItemTree) → ReadsTokens line ts → ts ≡ item_tokens i
+    → ReadsTokens line (item_tokens j) → i ≡ j
 tree_unique line ts i j d e f = item_tokens_unique i j (sym e ∙ tokens_unique ts (item_tokens j) line d f)
 
 -- at most one fault
@@ -106,13 +110,15 @@ fault_unique (Some M) line k l =
 names_not_both : (line : List ℕ) (L : LPresentation) (k : Kind) → MakesNames line L → LineFault None line k → ⊥
 names_not_both line L k h f =
     let form : NamesForm line = record { tokens = h.reads.tokens; spelled = h.reads.spelled; names = L.names; formed = h.reads.formed } in
-    let deep = Unless-next (IsShallow line) Deep (λ _. Unless (NamesForm line) Syntax (λ form. NamesFault form.names)) k h.reads.shallow f in
+    let deep =
+    Unless-next (IsShallow line) Deep (λ _. Unless (NamesForm line) Syntax (λ form. NamesFault form.names)) k h.reads.shallow f in
     let syntax = Unless-next (NamesForm line) Syntax (λ form. NamesFault form.names) k form deep.1 in
     let fault = subst (λ (ns : List (List ℕ)). NamesFault ns k) (form_names_unique line syntax.0 form) syntax.1 in
     let repeated = Unless-next (AreDistinct L.names) RepeatedName (λ _. UnlessPassed (names_trials 0 L.names) NoOther) k h.distinct fault in
     UnlessPassed-next (names_trials 0 L.names) NoOther k (within_names L h.within) repeated.1
 
-item_not_both : (M : LPresentation) (line : List ℕ) (L : LPresentation) (k : Kind) → AreDistinct M.names → MakesItem M line L → LineFault (Some M) line k → ⊥
+item_not_both : (M : LPresentation) (line : List ℕ) (L : LPresentation) (k : Kind) → AreDistinct M.names → MakesItem M line L
+    → LineFault (Some M) line k → ⊥
 item_not_both M line L k distinct h f =
     let read = item_of M.names distinct h.reads.formed in
     let i = read.tree in
@@ -121,12 +127,14 @@ item_not_both M line L k distinct h f =
     let deep = Unless-next (IsShallow line) Deep (λ _. Unless (ItemForm line) Syntax (λ form. ItemFault M form.tree)) k h.reads.shallow f in
     let syntax = Unless-next (ItemForm line) Syntax (λ form. ItemFault M form.tree) k form deep.1 in
     let fault = subst (λ (j : ItemTree). ItemFault M j k) (form_tree_unique line syntax.0 form) syntax.1 in
-    let unknown = Unless-next (AreKnown M.names (body_tokens i)) UnknownName (λ _. UnlessPassed (item_trials M i) last) k read.known fault in
+    let unknown =
+    Unless-next (AreKnown M.names (body_tokens i)) UnknownName (λ _. UnlessPassed (item_trials M i) last) k read.known fault in
     let within = subst IsWithinLimits (h.is ∙ ap (added M) read.means) h.within in
     let limit = UnlessPassed-next (item_trials M i) last k (kept_added M i read.gives distinct read.kept within) unknown.1 in
     (Unless-next (GivesAll M.names i) NotAllImages (λ _. NoOther) k read.gives limit).1
 
-pub not_both : (m : Option LPresentation) (line : List ℕ) (L : LPresentation) (k : Kind) → IsSound m → Makes m line L → LineFault m line k → ⊥
+pub not_both : (m : Option LPresentation) (line : List ℕ) (L : LPresentation) (k : Kind) → IsSound m → Makes m line L → LineFault m line k
+    → ⊥
 not_both None line L k s = names_not_both line L k
 not_both (Some M) line L k s = item_not_both M line L k s.0
 
@@ -134,10 +142,13 @@ not_both (Some M) line L k s = item_not_both M line L k s.0
 pub makes_unique : (m : Option LPresentation) (line : List ℕ) (L N : LPresentation) → IsSound m → Makes m line L → Makes m line N → L ≡ N
 makes_unique None line L N s h g =
     let same = tokens_unique h.reads.tokens g.reads.tokens line h.reads.spelled g.reads.spelled in
-    h.is ∙ ap bare (generators_unique L.names N.names g.reads.tokens (subst (IsGenerators L.names) same h.reads.formed) g.reads.formed) ∙ sym g.is
+    h.is ∙ ap bare (generators_unique L.names N.names g.reads.tokens (subst (IsGenerators L.names) same h.reads.formed) g.reads.formed)
+    ∙ sym g.is
 makes_unique (Some M) line L N s h g =
     let a = item_of M.names s.0 h.reads.formed in
     let b = item_of M.names s.0 g.reads.formed in
-    let same : a.tree ≡ b.tree = tree_unique line h.reads.tokens a.tree b.tree h.reads.spelled a.spelled (subst (ReadsTokens line) b.spelled g.reads.spelled) in
-    let items : item_meaning M.names a.tree a.gives ≡ item_meaning M.names b.tree b.gives = meaning_alike M.names a.tree b.tree same a.gives b.gives in
+    let same : a.tree ≡ b.tree =
+    tree_unique line h.reads.tokens a.tree b.tree h.reads.spelled a.spelled (subst (ReadsTokens line) b.spelled g.reads.spelled) in
+    let items : item_meaning M.names a.tree a.gives ≡ item_meaning M.names b.tree b.gives =
+    meaning_alike M.names a.tree b.tree same a.gives b.gives in
     h.is ∙ ap (added M) (a.means ∙ items ∙ sym b.means) ∙ sym g.is

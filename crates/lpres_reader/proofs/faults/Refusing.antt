@@ -11,6 +11,7 @@ pub refuses_map : (P Q : Kind → Type 0) (s : Stop) → ((k : Kind) → P k →
 refuses_map P Q NoMemory f h = tt
 refuses_map P Q (Fault k) f h = f k h
 
-pub found_refuses : {X : Type 0} (o : Option X) (Q : Type 0) (s : Stop) → (o ≡ None → Q) → Found (Err s) o → Refuses (λ k. (k ≡ Syntax) × Q) s
+pub found_refuses : {X : Type 0} (o : Option X) (Q : Type 0) (s : Stop) → (o ≡ None → Q) → Found (Err s) o
+    → Refuses (λ k. (k ≡ Syntax) × Q) s
 found_refuses o Q NoMemory f h = tt
 found_refuses o Q (Fault k) f h = (h.0, f h.1)

@@ -4,13 +4,19 @@ use Rattle.std.proofs.lemmas.List.{append-nil}
 use Rattle.std.specs.Prelude.{codes, bytes_eq, cond, Bool, true, false}
 use Rattle.pq_base.specs.LPresentation.{LPresentation}
 use Rattle.lpres_reader.specs.declared.token.Symbol.{Symbol}
-use Rattle.lpres_reader.specs.declared.token.Symbol.TheVariants.{Arrow, Star, Caret, Minus, Equals, Comma, OpenRound, CloseRound, OpenSquare, CloseSquare}
+use Rattle.lpres_reader.specs.declared.token.Symbol.TheVariants.{Arrow, Star, Caret, Minus, Equals, Comma, OpenRound, CloseRound}
+use Rattle.lpres_reader.specs.declared.token.Symbol.TheVariants.{OpenSquare, CloseSquare}
 use Rattle.lpres_reader.specs.Tokens.{Token, name, number, symbol}
 use Rattle.lpres_reader.specs.Limits.{total_letters}
-use Rattle.lpres_reader.specs.Trees.{WordTree, times, FactorTree, one, to_power, conjugated, UnitTree, named, round, square, two, and_one, RelatorTree, word, equation, ArrowTree, Sort, Exponent, plus, minus, exponent_size, word_meaning, factor_meaning, entries_meaning, relator_meaning}
+use Rattle.lpres_reader.specs.Trees.{WordTree, times, FactorTree, one, to_power, conjugated, UnitTree, named, round, square, two, and_one}
+use Rattle.lpres_reader.specs.Trees.{RelatorTree, word, equation, ArrowTree, Sort, Exponent, plus, minus, exponent_size, word_meaning}
+use Rattle.lpres_reader.specs.Trees.{factor_meaning, entries_meaning, relator_meaning}
 use Rattle.lpres_reader.specs.Trials as trials
-use Rattle.lpres_reader.specs.Trials.{Trial, tried, Endos, letters_tried, word_trials, factor_trials, unit_trials, entries_trials, relators_trials, arrows_trials, relators_of, item_trials}
-use Rattle.lpres_reader.specs.Parser.{Place, as_factor, as_exponent, Entered, none, first, several, Outer, in_relators, in_arrows, Around, outside, in_round, in_square, State, at_name, at_arrow, at_factor, at_exponent, at_digits, behind, joined, behind_unit, relator_of, unit_step, word_step, step}
+use Rattle.lpres_reader.specs.Trials.{Trial, tried, Endos, letters_tried, word_trials, factor_trials, unit_trials, entries_trials}
+use Rattle.lpres_reader.specs.Trials.{relators_trials, arrows_trials, relators_of, item_trials}
+use Rattle.lpres_reader.specs.Parser.{Place, as_factor, as_exponent, Entered, none, first, several, Outer, in_relators, in_arrows, Around}
+use Rattle.lpres_reader.specs.Parser.{outside, in_round, in_square, State, at_name, at_arrow, at_factor, at_exponent, at_digits, behind}
+use Rattle.lpres_reader.specs.Parser.{joined, behind_unit, relator_of, unit_step, word_step, step}
 use Rattle.lpres_reader.proofs.trees.FormSteps.{word_ends, word_ends_number}
 use Rattle.lpres_reader.proofs.items.GatheredSteps.{start_trials, end_trials, arrow_end_trials, relators_trials-push, arrows_trials-push}
 
@@ -27,7 +33,8 @@ abbrev pub endo_tried : LPresentation → Trial
 endo_tried M = tried Endos (suc (length M.endos))
 
 abbrev pub outer_trials : LPresentation → Outer → List Trial
-outer_trials M (in_relators s rs left) = relators_trials M.names s (length (relators_of M s)) (total_letters M) rs ++ start_trials M.names left
+outer_trials M (in_relators s rs left) =
+    relators_trials M.names s (length (relators_of M s)) (total_letters M) rs ++ start_trials M.names left
 outer_trials M (in_arrows qs n) = endo_tried M ∷ arrows_trials M.names (total_letters M) qs
 
 abbrev pub around_trials : LPresentation → Around → List Trial
@@ -49,7 +56,8 @@ abbrev pub unit_more : List (List ℕ) → Place → UnitTree → List Trial
 unit_more names (as_factor s) u = []
 unit_more names (as_exponent s f) u = letters_tried (factor_meaning names (conjugated f u))
 
-pub unit_more_is : (M : LPresentation) (a : Around) (p : Place) (u : UnitTree) → (around_trials M a ++ (place_trials M.names p ++ unit_trials M.names u)) ++ unit_more M.names p u ≡ state_trials M (behind_unit a p u)
+pub unit_more_is : (M : LPresentation) (a : Around) (p : Place) (u : UnitTree)
+    → (around_trials M a ++ (place_trials M.names p ++ unit_trials M.names u)) ++ unit_more M.names p u ≡ state_trials M (behind_unit a p u)
 unit_more_is M a (as_factor s) u = append-nil _
 unit_more_is M a (as_exponent s f) u = simp append_assoc
 
@@ -61,8 +69,11 @@ module _ (M : LPresentation) where
 
   pub unit_grows : (a : Around) (p : Place) (t : Token) → Grows (around_trials M a ++ place_trials M.names p) (unit_step a p t)
   unit_grows a p (name n) =
-      let more = unit_more M.names p (named n) in
-      (more, sym (unit_more_is M a p (named n)) ∙ ap (λ (l : List Trial). (around_trials M a ++ l) ++ more) (append-nil (place_trials M.names p)))
+      let more = unit_more M.names p (named n) in (
+        more,
+        sym (unit_more_is M a p (named n))
+            ∙ ap (λ (l : List Trial). (around_trials M a ++ l) ++ more) (append-nil (place_trials M.names p)),
+      )
   unit_grows a p (number n) = tt
   unit_grows a p (symbol OpenRound) = ([], refl)
   unit_grows a p (symbol OpenSquare) = ([], ap (λ (l : List Trial). (around_trials M a ++ l) ++ []) (append-nil (place_trials M.names p)))
@@ -73,7 +84,9 @@ module _ (M : LPresentation) where
 
   -- the trials behind a relator that ends
   pub relator_more : (s : Sort) (rs : List RelatorTree) (left : Option WordTree) (w : WordTree)
-      → (us : List Trial) × (relators_tried_at s (rs ++ relator_of left w ∷ []) ≡ ((relators_tried_at s rs ++ start_trials M.names left) ++ word_trials M.names w) ++ us)
+      → (us : List Trial)
+      × (relators_tried_at s (rs ++ relator_of left w ∷ [])
+      ≡ ((relators_tried_at s rs ++ start_trials M.names left) ++ word_trials M.names w) ++ us)
   relator_more s rs None w =
       let cs = end_trials M s rs (word w) in (
         cs,
@@ -85,23 +98,32 @@ module _ (M : LPresentation) where
       let r : RelatorTree = equation u w in
       let cs = end_trials M s rs r in
       let ls = letters_tried (relator_meaning M.names r) in
-      let same : relators_tried_at s rs ++ ((word_trials M.names u ++ (word_trials M.names w ++ ls)) ++ cs) ≡ ((relators_tried_at s rs ++ word_trials M.names u) ++ word_trials M.names w) ++ (ls ++ cs) = simp append_assoc in
+      let same : relators_tried_at s rs ++ ((word_trials M.names u ++ (word_trials M.names w ++ ls)) ++ cs)
+      ≡ ((relators_tried_at s rs ++ word_trials M.names u) ++ word_trials M.names w) ++ (ls ++ cs) = simp append_assoc in
       (ls ++ cs, relators_trials-push M.names s (length (relators_of M s)) (total_letters M) rs r ∙ same)
 
   pub arrow_more : (qs : List ArrowTree) (q : ArrowTree)
-      → (us : List Trial) × (endo_tried M ∷ arrows_trials M.names (total_letters M) (qs ++ q ∷ []) ≡ ((endo_tried M ∷ arrows_trials M.names (total_letters M) qs) ++ word_trials M.names q.to) ++ us)
+      → (us : List Trial)
+      × (endo_tried M ∷ arrows_trials M.names (total_letters M) (qs ++ q ∷ [])
+      ≡ ((endo_tried M ∷ arrows_trials M.names (total_letters M) qs) ++ word_trials M.names q.to) ++ us)
   arrow_more qs q =
-      let cs = arrow_end_trials M qs q in
-      (cs, ap (λ (l : List Trial). endo_tried M ∷ l) (arrows_trials-push M.names (total_letters M) qs q ∙ sym (append_assoc (arrows_trials M.names (total_letters M) qs) (word_trials M.names q.to) cs)))
+      let cs = arrow_end_trials M qs q in (
+        cs,
+        ap (λ (l : List Trial). endo_tried M ∷ l)
+            (arrows_trials-push M.names (total_letters M) qs q
+            ∙ sym (append_assoc (arrows_trials M.names (total_letters M) qs) (word_trials M.names q.to) cs)),
+      )
 
   relators_comma_grows : (s : Sort) (rs : List RelatorTree) (left : Option WordTree) (w : WordTree)
-      → Grows ((relators_tried_at s rs ++ start_trials M.names left) ++ word_trials M.names w) (Some (at_factor (outside (in_relators s (rs ++ relator_of left w ∷ []) None)) None))
+      → Grows ((relators_tried_at s rs ++ start_trials M.names left) ++ word_trials M.names w)
+      (Some (at_factor (outside (in_relators s (rs ++ relator_of left w ∷ []) None)) None))
   relators_comma_grows s rs left w =
       let m = relator_more s rs left w in
       (m.0, append-nil _ ∙ append-nil _ ∙ m.1)
 
   pub word_grows : (a : Around) (w : WordTree) (s : Symbol) → Grows (around_trials M a ++ word_trials M.names w) (word_step a w (symbol s))
-  word_grows (outside (in_relators s rs None)) w Equals = ([], ap (λ (l : List Trial). (l ++ word_trials M.names w) ++ []) (sym (append-nil (relators_tried_at s rs))))
+  word_grows (outside (in_relators s rs None)) w Equals =
+      ([], ap (λ (l : List Trial). (l ++ word_trials M.names w) ++ []) (sym (append-nil (relators_tried_at s rs))))
   word_grows (outside (in_relators s rs None)) w Comma = relators_comma_grows s rs None w
   word_grows (outside (in_relators s rs None)) w t = tt
   word_grows (outside (in_relators s rs (Some u))) w Comma = relators_comma_grows s rs (Some u) w
@@ -109,8 +131,11 @@ module _ (M : LPresentation) where
   word_grows (outside (in_arrows qs n)) w Comma = arrow_more qs (record { from = n; to = w })
   word_grows (outside (in_arrows qs n)) w t = tt
   word_grows (in_round p a) w CloseRound =
-      let more = unit_more M.names p (round w) in
-      (more, sym (unit_more_is M a p (round w)) ∙ ap (λ (l : List Trial). l ++ more) (sym (append_assoc (around_trials M a) (place_trials M.names p) (word_trials M.names w))))
+      let more = unit_more M.names p (round w) in (
+        more,
+        sym (unit_more_is M a p (round w))
+            ∙ ap (λ (l : List Trial). l ++ more) (sym (append_assoc (around_trials M a) (place_trials M.names p) (word_trials M.names w))),
+      )
   word_grows (in_round p a) w t = tt
   word_grows (in_square p none a) w Comma = ([], ap (λ (l : List Trial). l ++ []) (simp (append_assoc, append-nil)))
   word_grows (in_square p none a) w t = tt
@@ -135,7 +160,8 @@ module _ (M : LPresentation) where
   grows_further ts us all None e g = tt
   grows_further ts us all (Some state) e g = (us ++ g.0, g.1 ∙ ap (λ (l : List Trial). l ++ g.0) e ∙ append_assoc ts us g.0)
 
-  power_grows : (a : Around) (s : Option WordTree) (f : FactorTree) (e : Exponent) → Grows (state_trials M (at_exponent a s f)) (Some (behind a s (to_power f e)))
+  power_grows : (a : Around) (s : Option WordTree) (f : FactorTree) (e : Exponent)
+      → Grows (state_trials M (at_exponent a s f)) (Some (behind a s (to_power f e)))
   power_grows a s f e = (tried trials.Exponent (exponent_size e) ∷ letters_tried (factor_meaning M.names (to_power f e)), simp append_assoc)
 
   pub step_grows : (state : State) (t : Token) → Grows (state_trials M state) (step state t)
@@ -159,8 +185,11 @@ module _ (M : LPresentation) where
   step_grows (at_digits a s f) t = tt
   step_grows (behind a s f) (symbol Caret) = ([], sym (append-nil _))
   step_grows (behind a s f) (symbol Star) = joined_more a s f
-  step_grows (behind a s f) (name n) = subst (λ (o : Option State). Grows (state_trials M (behind a s f)) o) (sym (word_ends a (joined s f) n)) tt
-  step_grows (behind a s f) (number n) = subst (λ (o : Option State). Grows (state_trials M (behind a s f)) o) (sym (word_ends_number a (joined s f) n)) tt
+  step_grows (behind a s f) (name n) =
+      subst (λ (o : Option State). Grows (state_trials M (behind a s f)) o) (sym (word_ends a (joined s f) n)) tt
+  step_grows (behind a s f) (number n) =
+      subst (λ (o : Option State). Grows (state_trials M (behind a s f)) o) (sym (word_ends_number a (joined s f) n)) tt
   step_grows (behind a s f) (symbol t) =
       let j = joined_more a s f in
-      grows_further (state_trials M (behind a s f)) j.0 (around_trials M a ++ word_trials M.names (joined s f)) (word_step a (joined s f) (symbol t)) j.1 (word_grows a (joined s f) t)
+      grows_further (state_trials M (behind a s f)) j.0 (around_trials M a ++ word_trials M.names (joined s f))
+      (word_step a (joined s f) (symbol t)) j.1 (word_grows a (joined s f) t)

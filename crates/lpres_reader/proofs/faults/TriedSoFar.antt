@@ -3,8 +3,10 @@ use Rattle.std.specs.Prelude.{ℕ, suc, List, [], ◌∷◌, ◌++◌, length, O
 use Rattle.pq_base.specs.LPresentation.{LPresentation}
 use Rattle.lpres_reader.specs.Limits.{total_letters}
 use Rattle.lpres_reader.specs.Trees.{WordTree}
-use Rattle.lpres_reader.specs.Parser.{Place, as_factor, as_exponent, Entered, none, first, several, Outer, in_relators, in_arrows, Around, outside, in_round, in_square, State, at_name, at_arrow, at_factor, at_exponent, at_digits, behind}
-use Rattle.lpres_reader.specs.Trials.{Trial, tried, Endos, word_trials, factor_trials, entries_trials, relators_trials, arrows_trials, relators_of}
+use Rattle.lpres_reader.specs.Parser.{Place, as_factor, as_exponent, Entered, none, first, several, Outer, in_relators, in_arrows, Around}
+use Rattle.lpres_reader.specs.Parser.{outside, in_round, in_square, State, at_name, at_arrow, at_factor, at_exponent, at_digits, behind}
+use Rattle.lpres_reader.specs.Trials.{Trial, tried, Endos, word_trials, factor_trials, entries_trials, relators_trials, arrows_trials}
+use Rattle.lpres_reader.specs.Trials.{relators_of}
 
 -- of a word that something may follow
 abbrev pub start_trials : List (List ℕ) → Option WordTree → List Trial
@@ -21,7 +23,8 @@ place_trials names (as_factor s) = start_trials names s
 place_trials names (as_exponent s f) = start_trials names s ++ factor_trials names f
 
 abbrev pub outer_trials : LPresentation → Outer → List Trial
-outer_trials M (in_relators s rs left) = relators_trials M.names s (length (relators_of M s)) (total_letters M) rs ++ start_trials M.names left
+outer_trials M (in_relators s rs left) =
+    relators_trials M.names s (length (relators_of M s)) (total_letters M) rs ++ start_trials M.names left
 outer_trials M (in_arrows qs n) = tried Endos (suc (length M.endos)) ∷ arrows_trials M.names (total_letters M) qs
 
 abbrev pub around_trials : LPresentation → Around → List Trial

@@ -1,6 +1,7 @@
 -- A line that keeps its trials behind a presentation within the limits makes a presentation within the limits, and the
 -- other way round. A presentation with an item more is within the limits only where it is so without it.
-use Rattle.std.proofs.Common.{◌≡◌, ◌≤◌, ◌<◌, ℕ, ◌+◌, ℤ, List, [], ◌∷◌, ◌++◌, map, length, length-append, sum_by, All, Option, Some, None, refl, ◌∙◌, arith}
+use Rattle.std.proofs.Common.{◌≡◌, ◌≤◌, ◌<◌, ℕ, ◌+◌, ℤ, List, [], ◌∷◌, ◌++◌, map, length, length-append, sum_by, All, Option, Some, None}
+use Rattle.std.proofs.Common.{refl, ◌∙◌, arith}
 use Rattle.std.specs.List.{AllByRecursion}
 use Rattle.std.proofs.lemmas.List.{length-map}
 use Rattle.std.proofs.lemmas.List.Sums.{sum_by-cons, sum_by-append}
@@ -9,7 +10,8 @@ use Rattle.pq_base.specs.LPresentation.{LPresentation, AreDistinct}
 use Rattle.lpres_reader.specs.Words.{letter_limit}
 use Rattle.lpres_reader.specs.Items.{Item, fixed, iterated, endo}
 use Rattle.lpres_reader.specs.Limits.{AreShort, letters_in, total_letters, IsWithinLimits}
-use Rattle.lpres_reader.specs.Trees.{RelatorTree, ArrowTree, fixed_sort, iterated_sort, ItemTree, relators, arrows, place_of, known_place, relator_meaning, arrow_meaning, GivesAll, item_meaning}
+use Rattle.lpres_reader.specs.Trees.{RelatorTree, ArrowTree, fixed_sort, iterated_sort, ItemTree, relators, arrows, place_of, known_place}
+use Rattle.lpres_reader.specs.Trees.{relator_meaning, arrow_meaning, GivesAll, item_meaning}
 use Rattle.lpres_reader.specs.Trials.{AreKept, item_trials, added}
 use Rattle.lpres_reader.proofs.names.Places.{place_of-Some}
 use Rattle.lpres_reader.proofs.trees.TreeWords.{word_short}
@@ -76,11 +78,13 @@ within_before M (endo f) h =
     }
 
 module _ (names : List (List ℕ)) (distinct : AreDistinct names) where
-  relators_short : (rs : List RelatorTree) → RelatorsKept names rs → AllByRecursion (λ w. length w ≤ letter_limit) (map (relator_meaning names) rs)
+  relators_short : (rs : List RelatorTree) → RelatorsKept names rs
+      → AllByRecursion (λ w. length w ≤ letter_limit) (map (relator_meaning names) rs)
   relators_short [] h = tt
   relators_short (r ∷ rs) h = (relator_short names distinct r h.0, relators_short rs h.1)
 
-  arrows_short : (qs : List ArrowTree) → ArrowsKept names qs → AllByRecursion (λ m. length m.to ≤ letter_limit) (map (arrow_meaning names) qs)
+  arrows_short : (qs : List ArrowTree) → ArrowsKept names qs
+      → AllByRecursion (λ m. length m.to ≤ letter_limit) (map (arrow_meaning names) qs)
   arrows_short [] h = tt
   arrows_short (q ∷ qs) h = (word_short names distinct q.to h.0, arrows_short qs h.1)
 
@@ -96,7 +100,8 @@ module _ (names : List (List ℕ)) (distinct : AreDistinct names) where
   short_relators rs h = All-from_recursion (λ w. length w ≤ letter_limit) (map (relator_meaning names) rs) (relators_short rs h)
 
 -- a line that keeps its trials
-pub within_added : (M : LPresentation) (i : ItemTree) (g : GivesAll M.names i) → AreDistinct M.names → IsWithinLimits M → AreKept (item_trials M i)
+pub within_added : (M : LPresentation) (i : ItemTree) (g : GivesAll M.names i) → AreDistinct M.names → IsWithinLimits M
+    → AreKept (item_trials M i)
     → PartsKept M.names i × IsWithinLimits (added M (item_meaning M.names i g))
 within_added M (relators fixed_sort rs r) g distinct h kept =
     let all = rs ++ r ∷ [] in
@@ -133,7 +138,8 @@ within_added M (relators iterated_sort rs r) g distinct h kept =
         iterated = omega (arith, length-append M.iterated ws, length-map all (relator_meaning M.names));
         endos = h.endos;
         fixed_letters = h.fixed_letters;
-        iterated_letters = All-append (λ w. length w ≤ letter_limit) M.iterated ws h.iterated_letters (short_relators M.names distinct all parts.0);
+        iterated_letters =
+            All-append (λ w. length w ≤ letter_limit) M.iterated ws h.iterated_letters (short_relators M.names distinct all parts.0);
         endo_letters = h.endo_letters;
         total = omega (arith, sum_by-append length M.iterated ws);
       },
@@ -155,29 +161,37 @@ within_added M (arrows qs q) g distinct h kept =
         endos = omega (arith, length-append M.endos (g.0 ∷ []));
         fixed_letters = h.fixed_letters;
         iterated_letters = h.iterated_letters;
-        endo_letters = All-push AreShort M.endos g.0 h.endo_letters (images_all (λ w. length w ≤ letter_limit) (length M.names) ms g.0 (arrows_short M.names distinct all parts.0) g.1);
+        endo_letters =
+            All-push AreShort M.endos g.0 h.endo_letters
+            (images_all (λ w. length w ≤ letter_limit) (length M.names) ms g.0 (arrows_short M.names distinct all parts.0) g.1);
         total = omega (arith, endos_letters M.endos g.0);
       },
     )
 
 -- and back
-pub kept_added : (M : LPresentation) (i : ItemTree) (g : GivesAll M.names i) → AreDistinct M.names → PartsKept M.names i → IsWithinLimits (added M (item_meaning M.names i g)) → AreKept (item_trials M i)
+pub kept_added : (M : LPresentation) (i : ItemTree) (g : GivesAll M.names i) → AreDistinct M.names → PartsKept M.names i
+    → IsWithinLimits (added M (item_meaning M.names i g)) → AreKept (item_trials M i)
 kept_added M (relators fixed_sort rs r) g distinct parts h =
     let all = rs ++ r ∷ [] in
     let ws = map (relator_meaning M.names) all in
     let few = h.fixed in
     let small = h.total in
-    relators_kept M.names fixed_sort (length M.fixed) (total_letters M) all parts (omega (arith, length-append M.fixed ws, length-map all (relator_meaning M.names))) (omega (arith, sum_by-append length M.fixed ws))
+    relators_kept M.names fixed_sort (length M.fixed) (total_letters M) all parts
+    (omega (arith, length-append M.fixed ws, length-map all (relator_meaning M.names))) (omega (arith, sum_by-append length M.fixed ws))
 kept_added M (relators iterated_sort rs r) g distinct parts h =
     let all = rs ++ r ∷ [] in
     let ws = map (relator_meaning M.names) all in
     let few = h.iterated in
     let small = h.total in
-    relators_kept M.names iterated_sort (length M.iterated) (total_letters M) all parts (omega (arith, length-append M.iterated ws, length-map all (relator_meaning M.names))) (omega (arith, sum_by-append length M.iterated ws))
+    relators_kept M.names iterated_sort (length M.iterated) (total_letters M) all parts
+    (omega (arith, length-append M.iterated ws, length-map all (relator_meaning M.names)))
+    (omega (arith, sum_by-append length M.iterated ws))
 kept_added M (arrows qs q) g distinct parts h =
     let all = qs ++ q ∷ [] in
     let ms = map (arrow_meaning M.names) all in
     let few = h.endos in
     let small = h.total in
-    let letters = letters_of_images (length M.names) ms g.0 (arrows_from M.names distinct all h.some_generator) g.1 in
-    (omega (arith, length-append M.endos (g.0 ∷ [])), arrows_kept M.names (total_letters M) all parts (omega (arith, endos_letters M.endos g.0)))
+    let letters = letters_of_images (length M.names) ms g.0 (arrows_from M.names distinct all h.some_generator) g.1 in (
+      omega (arith, length-append M.endos (g.0 ∷ [])),
+      arrows_kept M.names (total_letters M) all parts (omega (arith, endos_letters M.endos g.0)),
+    )

@@ -4,7 +4,8 @@ use Rattle.std.specs.List.{AllByRecursion}
 use Rattle.std.proofs.lemmas.List.Elements.{recursion_from_All}
 use Rattle.pq_base.specs.SignedWord.{HasLetters}
 use Rattle.pq_base.specs.LPresentation.{LPresentation, IsLPresentation, AreWords, AreEndos}
-use Rattle.lpres_reader.specs.Trees.{fixed_sort, iterated_sort, ItemTree, relators, arrows, relator_meaning, arrow_meaning, GivesAll, item_meaning}
+use Rattle.lpres_reader.specs.Trees.{fixed_sort, iterated_sort, ItemTree, relators, arrows, relator_meaning, arrow_meaning, GivesAll}
+use Rattle.lpres_reader.specs.Trees.{item_meaning}
 use Rattle.lpres_reader.specs.Trials.{added}
 use Rattle.lpres_reader.proofs.items.GivesEachLaws.{images_all}
 use Rattle.lpres_reader.proofs.trees.MeaningLetters.{relators_letters, arrows_letters}
@@ -17,21 +18,27 @@ AreWords-append : (n : ℕ) (us vs : List (List ℤ)) → AreWords n us → AreW
 AreWords-append n [] vs h i = i
 AreWords-append n (u ∷ us) vs h i = (h.0, AreWords-append n us vs h.1 i)
 
-AreEndos-push : (n : ℕ) (fs : List (List (List ℤ))) (f : List (List ℤ)) → AreEndos n fs → length f ≡ n → AreWords n f → AreEndos n (fs ++ f ∷ [])
+AreEndos-push : (n : ℕ) (fs : List (List (List ℤ))) (f : List (List ℤ)) → AreEndos n fs → length f ≡ n → AreWords n f
+    → AreEndos n (fs ++ f ∷ [])
 AreEndos-push n [] f h e i = (e, i, tt)
 AreEndos-push n (g ∷ fs) f h e i = (h.0, h.1, AreEndos-push n fs f h.2 e i)
 
-pub presentation_added : (M : LPresentation) (i : ItemTree) (g : GivesAll M.names i) → IsLPresentation M → IsLPresentation (added M (item_meaning M.names i g))
+pub presentation_added : (M : LPresentation) (i : ItemTree) (g : GivesAll M.names i) → IsLPresentation M
+    → IsLPresentation (added M (item_meaning M.names i g))
 presentation_added M (relators fixed_sort rs r) g h = record {
   distinct = h.distinct;
-  fixed_words = AreWords-append (length M.names) M.fixed (map (relator_meaning M.names) (rs ++ r ∷ [])) h.fixed_words (relators_letters M.names (rs ++ r ∷ []));
+  fixed_words =
+      AreWords-append (length M.names) M.fixed (map (relator_meaning M.names) (rs ++ r ∷ [])) h.fixed_words
+      (relators_letters M.names (rs ++ r ∷ []));
   iterated_words = h.iterated_words;
   endo_words = h.endo_words;
 }
 presentation_added M (relators iterated_sort rs r) g h = record {
   distinct = h.distinct;
   fixed_words = h.fixed_words;
-  iterated_words = AreWords-append (length M.names) M.iterated (map (relator_meaning M.names) (rs ++ r ∷ [])) h.iterated_words (relators_letters M.names (rs ++ r ∷ []));
+  iterated_words =
+      AreWords-append (length M.names) M.iterated (map (relator_meaning M.names) (rs ++ r ∷ [])) h.iterated_words
+      (relators_letters M.names (rs ++ r ∷ []));
   endo_words = h.endo_words;
 }
 presentation_added M (arrows qs q) g h =

@@ -1,5 +1,6 @@
 -- Texts with the same bytes between any two of them, where some are written and the others are left.
-use Rattle.std.proofs.Common.{◌≡◌, ◌<◌, ◌≤◌, ℕ, zero, suc, List, [], ◌∷◌, ◌++◌, get_or, length, drop, refl, ap, sym, ◌∙◌, arith, append_assoc}
+use Rattle.std.proofs.Common.{◌≡◌, ◌<◌, ◌≤◌, ℕ, zero, suc, List, [], ◌∷◌, ◌++◌, get_or, length, drop, refl, ap, sym, ◌∙◌, arith}
+use Rattle.std.proofs.Common.{append_assoc}
 use Rattle.std.specs.Prelude.{ℤ}
 use Rattle.std.proofs.Math.Seq.{drop-cons}
 use Rattle.lpres_reader.specs.CanonicalText.{preceded, separated, arrow_text, arrow_texts}
@@ -30,13 +31,17 @@ two_more : (out mid new all g t rest : List ℕ) → mid ≡ out ++ g → new �
 two_more out mid new all g t rest gap text so_far = rw (text, gap) (simp append_assoc so_far)
 
 -- a writer that wrote the next arrow
-pub arrow_texts-next : (k j : ℕ) (s : List ℕ) (names : List (List ℕ)) (ws : List (List ℤ)) (out mid new all : List ℕ) → j ≡ suc k → k < length ws
+pub arrow_texts-next : (k j : ℕ) (s : List ℕ) (names : List (List ℕ)) (ws : List (List ℤ)) (out mid new all : List ℕ) → j ≡ suc k
+    → k < length ws
     → mid ≡ out ++ between k s → new ≡ mid ++ arrow_text names j (get_or ws k [])
     → out ++ left_after k s (arrow_texts names k (drop k ws)) ≡ all → new ++ left_after j s (arrow_texts names j (drop j ws)) ≡ all
 arrow_texts-next k j s names ws out mid new all next inside gap arrow so_far =
     let t : List ℕ = arrow_text names (suc k) (get_or ws k []) in
     let ts : List (List ℕ) = arrow_texts names (suc k) (drop (suc k) ws) in
-    let cut : left_after k s (arrow_texts names k (drop k ws)) ≡ left_after k s (t ∷ ts) = ap (λ (vs : List (List ℤ)). left_after k s (arrow_texts names k vs)) (drop-cons ws k [] inside) in
-    let parts : out ++ (between k s ++ (t ++ left_after (suc k) s ts)) ≡ all = ap (λ (x : List ℕ). out ++ x) (sym (cut ∙ left_after-cons k s t ts)) ∙ so_far in
+    let cut : left_after k s (arrow_texts names k (drop k ws)) ≡ left_after k s (t ∷ ts) =
+    ap (λ (vs : List (List ℤ)). left_after k s (arrow_texts names k vs)) (drop-cons ws k [] inside) in
+    let parts : out ++ (between k s ++ (t ++ left_after (suc k) s ts)) ≡ all =
+    ap (λ (x : List ℕ). out ++ x) (sym (cut ∙ left_after-cons k s t ts)) ∙ so_far in
     let written : new ≡ mid ++ t = arrow ∙ ap (λ (n : ℕ). mid ++ arrow_text names n (get_or ws k [])) next in
-    ap (λ (n : ℕ). new ++ left_after n s (arrow_texts names n (drop n ws))) next ∙ two_more out mid new all (between k s) t (left_after (suc k) s ts) gap written parts
+    ap (λ (n : ℕ). new ++ left_after n s (arrow_texts names n (drop n ws))) next
+    ∙ two_more out mid new all (between k s) t (left_after (suc k) s ts) gap written parts

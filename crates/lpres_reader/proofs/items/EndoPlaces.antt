@@ -15,12 +15,14 @@ AreEndoNumbers-append_right n [] t h = h
 AreEndoNumbers-append_right n (zero ∷ s) t h = absurd h
 AreEndoNumbers-append_right n (suc e ∷ s) t h = AreEndoNumbers-append_right n s t h.1
 
-pub length-endo_at : (n : ℕ) (endos : List (List (List ℤ))) (e : ℕ) → AreEndos n endos → AreEndoNumbers (length endos) (e ∷ []) → length (endo_at endos e) ≡ n
+pub length-endo_at : (n : ℕ) (endos : List (List (List ℤ))) (e : ℕ) → AreEndos n endos → AreEndoNumbers (length endos) (e ∷ [])
+    → length (endo_at endos e) ≡ n
 length-endo_at n endos zero h k = absurd k
 length-endo_at n endos (suc i) h k = (AreEndos-get_or n endos i h k.0).0
 
 -- a list of images, in the list that holds it
-pub items_at : (endos : List (Vec (List ℤ))) (f : Vec (List ℤ)) (i : ℕ) → i < length endos → f ≡ get_or endos i f → get_or (map (λ g. g.items) endos) i [] ≡ f.items
+pub items_at : (endos : List (Vec (List ℤ))) (f : Vec (List ℤ)) (i : ℕ) → i < length endos → f ≡ get_or endos i f
+    → get_or (map (λ g. g.items) endos) i [] ≡ f.items
 items_at endos f i l is = get_or-map (λ (g : Vec (List ℤ)). g.items) endos i f [] l ∙ ap (λ (g : Vec (List ℤ)). g.items) (sym is)
 
 pub items_within : (endos : List (Vec (List ℤ))) (i : ℕ) → i < length endos → i < length (map (λ g. g.items) endos)

@@ -1,6 +1,8 @@
 -- Where arrows lead from each of n generators exactly once, the images have as many letters together as the words to
 -- which the arrows lead, each image is one of these words, and there are no other images.
-use Rattle.std.proofs.Common.{◌≡◌, ◌<◌, ℕ, zero, suc, ◌+◌, ℤ, Bool, cond, eqb, List, [], ◌∷◌, ◌++◌, length, length-append, take, get_or, sum_by, All, refl, sym, ap, ap₂, subst, ◌∙◌, arith, inl, inr, ◌≢◌, Option, Some, None, MatchOption, option_and_then}
+use Rattle.std.proofs.Common.{◌≡◌, ◌<◌, ℕ, zero, suc, ◌+◌, ℤ, Bool, cond, eqb, List, [], ◌∷◌, ◌++◌, length, length-append, take, get_or}
+use Rattle.std.proofs.Common.{sum_by, All, refl, sym, ap, ap₂, subst, ◌∙◌, arith, inl, inr, ◌≢◌, Option, Some, None, MatchOption}
+use Rattle.std.proofs.Common.{option_and_then}
 use Rattle.std.specs.List.{AllByRecursion}
 use Rattle.std.proofs.lemmas.Bool.{cond_both, cases_lt}
 use Rattle.std.proofs.lemmas.Bool.Decides.{eqb_tells}
@@ -56,7 +58,8 @@ letters_by_place : (n : ℕ) (ms : List Mapping) → AreFrom n ms → sum_below 
 letters_by_place n [] h = sum_below-zero n
 letters_by_place n (m ∷ ms) h =
     let here : letters_from (m ∷ ms) m.from ≡ length m.to + letters_from ms m.from = elim (eqb_tells m.from m.from) [
-      | inl t ↦ ap (λ (b : Bool). sum_by length (cond b (m.to ∷ words_from m.from ms) (words_from m.from ms))) t.0 ∙ sum_by-cons length m.to (words_from m.from ms)
+      | inl t ↦ ap (λ (b : Bool). sum_by length (cond b (m.to ∷ words_from m.from ms) (words_from m.from ms))) t.0
+          ∙ sum_by-cons length m.to (words_from m.from ms)
       | inr f ↦ absurd (f.1 refl)
     ] in
     let there = λ (k : ℕ) (ne : k ≢ m.from). elim (eqb_tells m.from k) as (λ _. letters_from (m ∷ ms) k ≡ letters_from ms k) [
@@ -69,13 +72,16 @@ letters_by_place n (m ∷ ms) h =
 
 sum_by-places : (ws : List (List ℤ)) → sum_by length ws ≡ sum_below (length ws) (λ k. length (get_or ws k []))
 sum_by-places [] = refl
-sum_by-places (w ∷ ws) = sum_by-cons length w ws ∙ ap (λ (x : ℕ). length w + x) (sum_by-places ws) ∙ sym (sum_below-suc (length ws) (λ k. length (get_or (w ∷ ws) k [])))
+sum_by-places (w ∷ ws) =
+    sum_by-cons length w ws ∙ ap (λ (x : ℕ). length w + x) (sum_by-places ws)
+    ∙ sym (sum_below-suc (length ws) (λ k. length (get_or (w ∷ ws) k [])))
 
 pub letters_of_images : (n : ℕ) (ms : List Mapping) (f : List (List ℤ)) → AreFrom n ms → GivesEach n ms f → sum_by length f ≡ letters_of ms
 letters_of_images n ms f h g =
     sum_by-places f
     ∙ ap (λ (k : ℕ). sum_below k (λ i. length (get_or f i []))) g.image_count
-    ∙ sum_below-same n (λ i. length (get_or f i [])) (letters_from ms) (λ k lt. sym (ap (sum_by length) (g.exactly_one k lt) ∙ sum_by-cons length (get_or f k []) [] ∙ omega arith))
+    ∙ sum_below-same n (λ i. length (get_or f i [])) (letters_from ms)
+    (λ k lt. sym (ap (sum_by length) (g.exactly_one k lt) ∙ sum_by-cons length (get_or f k []) [] ∙ omega arith))
     ∙ letters_by_place n ms h
 
 pub images_unique : (n : ℕ) (ms : List Mapping) (f g : List (List ℤ)) → GivesEach n ms f → GivesEach n ms g → f ≡ g
@@ -90,7 +96,8 @@ words_from_all P k (m ∷ ms) h =
     let rest = words_from_all P k ms h.1 in
     cond_both (eqb m.from k) (m.to ∷ words_from k ms) (words_from k ms) (AllByRecursion P) (λ e. (h.0, rest)) (λ e. rest)
 
-pub images_all : (P : List ℤ → Type 0) (n : ℕ) (ms : List Mapping) (f : List (List ℤ)) → AllByRecursion (λ m. P m.to) ms → GivesEach n ms f → All P f
+pub images_all : (P : List ℤ → Type 0) (n : ℕ) (ms : List Mapping) (f : List (List ℤ)) → AllByRecursion (λ m. P m.to) ms → GivesEach n ms f
+    → All P f
 images_all P n ms f h g = All-from_get_or P f [] (λ k lt.
     let small : k < n = subst (λ (m : ℕ). k < m) g.image_count lt in
     (subst (AllByRecursion P) (g.exactly_one k small) (words_from_all P k ms h)).0)
@@ -103,7 +110,8 @@ first_images n ms f g =
       exactly_one = λ k lt. g.exactly_one k (omega arith) ∙ ap (λ (w : List ℤ). w ∷ []) (sym (get_or-take n f k [] lt));
     }
 
-one_more : (n : ℕ) (ms : List Mapping) (f : List (List ℤ)) (w : List ℤ) → GivesEach n ms f → words_from n ms ≡ w ∷ [] → GivesEach (suc n) ms (f ++ w ∷ [])
+one_more : (n : ℕ) (ms : List Mapping) (f : List (List ℤ)) (w : List ℤ) → GivesEach n ms f → words_from n ms ≡ w ∷ []
+    → GivesEach (suc n) ms (f ++ w ∷ [])
 one_more n ms f w g e =
     let count = g.image_count in
     record {
@@ -113,7 +121,8 @@ one_more n ms f w g e =
         | inr end ↦
             let is : length f ≡ k = omega arith in
             let at : n ≡ k = omega arith in
-            ap (λ (i : ℕ). words_from i ms) (sym at) ∙ e ∙ ap (λ (v : List ℤ). v ∷ []) (sym (ap (λ (i : ℕ). get_or (f ++ w ∷ []) i []) (sym is) ∙ get_or-append_seam f w [] []))
+            ap (λ (i : ℕ). words_from i ms) (sym at)
+            ∙ e ∙ ap (λ (v : List ℤ). v ∷ []) (sym (ap (λ (i : ℕ). get_or (f ++ w ∷ []) i []) (sym is) ∙ get_or-append_seam f w [] []))
       ];
     }
 
@@ -121,12 +130,14 @@ one_more n ms f w g e =
 abbrev AreImages : ℕ → List Mapping → Option (List (List ℤ)) → Type 0
 AreImages n ms o = MatchOption o ((f : List (List ℤ)) → GivesEach n ms f → ⊥) (GivesEach n ms)
 
-image_found : (n : ℕ) (ms : List Mapping) (ws f : List (List ℤ)) → words_from n ms ≡ ws → GivesEach n ms f → AreImages (suc n) ms (image_behind ws f)
+image_found : (n : ℕ) (ms : List Mapping) (ws f : List (List ℤ)) → words_from n ms ≡ ws → GivesEach n ms f
+    → AreImages (suc n) ms (image_behind ws f)
 image_found n ms [] f e g = λ h k. let one : [] ≡ get_or h n [] ∷ [] = sym e ∙ k.exactly_one n (omega arith) in cc
 image_found n ms (w ∷ []) f e g = one_more n ms f w g e
 image_found n ms (w ∷ v ∷ ws) f e g = λ h k. let one : w ∷ v ∷ ws ≡ get_or h n [] ∷ [] = sym e ∙ k.exactly_one n (omega arith) in cc
 
-images_found : (n : ℕ) (ms : List Mapping) (o : Option (List (List ℤ))) → AreImages n ms o → AreImages (suc n) ms (option_and_then (image_behind (words_from n ms)) o)
+images_found : (n : ℕ) (ms : List Mapping) (o : Option (List (List ℤ))) → AreImages n ms o
+    → AreImages (suc n) ms (option_and_then (image_behind (words_from n ms)) o)
 images_found n ms None never = λ f g. never (take n f) (first_images n ms f g)
 images_found n ms (Some f) g = image_found n ms (words_from n ms) f refl g
 

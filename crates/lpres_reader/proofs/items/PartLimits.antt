@@ -8,7 +8,8 @@ use Rattle.lpres_reader.specs.Presentations.{made_of}
 use Rattle.lpres_reader.specs.Parts.{AreFew, HasRelatorLetters}
 
 pub parts_within : (names : List (List ℕ)) (fixed iterated : List (List ℤ)) (endos : List (Vec (List ℤ)))
-    → AreFew (length names) (length fixed) (length iterated) (length endos) → HasRelatorLetters (length names) fixed iterated (map (λ f. f.items) endos)
+    → AreFew (length names) (length fixed) (length iterated) (length endos)
+    → HasRelatorLetters (length names) fixed iterated (map (λ f. f.items) endos)
     → All IsName names → IsWithinLimits (made_of names fixed iterated endos)
 parts_within names fixed iterated endos few letters each =
     let few_endos = few.endos in

@@ -18,17 +18,22 @@ any_begins lines = list_any (λ line. is_generators (front_of line)) lines
 pub record NoneSoFar (text : List ℕ) (left : Option (List ℕ)) : Type 0 where
   pub same : any_begins (lines_of text) ≡ any_begins (lines_left left)
 
-first_of_lines : (text here line : List ℕ) (after : Option (List ℕ)) (b : Bool) → NoneSoFar text (Some here) → lines_of here ≡ line ∷ lines_left after → is_generators (front_of line) ≡ b
+first_of_lines : (text here line : List ℕ) (after : Option (List ℕ)) (b : Bool) → NoneSoFar text (Some here)
+    → lines_of here ≡ line ∷ lines_left after → is_generators (front_of line) ≡ b
     → any_begins (lines_of text) ≡ (b || any_begins (lines_left after))
 first_of_lines text here line after b s cut e = s.same ∙ ap any_begins cut ∙ ap (λ (t : Bool). t || any_begins (lines_left after)) e
 
-pub begins_here : (text here line : List ℕ) (after : Option (List ℕ)) → NoneSoFar text (Some here) → lines_of here ≡ line ∷ lines_left after → is_generators (front_of line) ≡ true → HasGenerators text
-begins_here text here line after s cut e = has_generators text ((has_line-Decides (lines_of text)).0 (first_of_lines text here line after true s cut e))
+pub begins_here : (text here line : List ℕ) (after : Option (List ℕ)) → NoneSoFar text (Some here) → lines_of here ≡ line ∷ lines_left after
+    → is_generators (front_of line) ≡ true → HasGenerators text
+begins_here text here line after s cut e =
+    has_generators text ((has_line-Decides (lines_of text)).0 (first_of_lines text here line after true s cut e))
 
-pub begins_later : (text here line : List ℕ) (after : Option (List ℕ)) → NoneSoFar text (Some here) → lines_of here ≡ line ∷ lines_left after → is_generators (front_of line) ≡ false → NoneSoFar text after
+pub begins_later : (text here line : List ℕ) (after : Option (List ℕ)) → NoneSoFar text (Some here)
+    → lines_of here ≡ line ∷ lines_left after → is_generators (front_of line) ≡ false → NoneSoFar text after
 begins_later text here line after s cut e = record { same = first_of_lines text here line after false s cut e }
 
-pub begins_nowhere : (text : List ℕ) (left : Option (Bor (List ℕ))) → ((t : Bor (List ℕ)) → left ≡ Some t → ⊥) → NoneSoFar text (option_map (λ t. t.now) left) → ¬ HasGenerators text
+pub begins_nowhere : (text : List ℕ) (left : Option (Bor (List ℕ))) → ((t : Bor (List ℕ)) → left ≡ Some t → ⊥)
+    → NoneSoFar text (option_map (λ t. t.now) left) → ¬ HasGenerators text
 begins_nowhere text None none s h = true≢false (sym ((has_line-Decides (lines_of text)).1 (has_line text h)) ∙ s.same)
 begins_nowhere text (Some t) none s h = none t refl
 

@@ -1,5 +1,6 @@
 -- Names that are kept in order and without repetition: which place a name has, and when it is not among them.
-use Rattle.std.proofs.Common.{◌≡◌, ◌≢◌, ℕ, ◌<◌, Bool, true, eqb, position, List, [], ◌∷◌, ◌++◌, length, get_or, Some, None, Contains, sym, ◌∙◌, arith}
+use Rattle.std.proofs.Common.{◌≡◌, ◌≢◌, ℕ, ◌<◌, Bool, true, eqb, position, List, [], ◌∷◌, ◌++◌, length, get_or, Some, None, Contains, sym}
+use Rattle.std.proofs.Common.{◌∙◌, arith}
 use Rattle.std.specs.List.{list_any, IsDistinct}
 use Rattle.std.specs.Cmp.Lexicographic.{pointwise, bytes_decides}
 use Rattle.std.proofs.lemmas.List.Quantifiers.{position-Some}
@@ -16,12 +17,14 @@ use Rattle.pq_base.specs.LPresentation.{AreDistinct}
 abbrev pub same_name : List ℕ → List ℕ → Bool
 same_name a b = pointwise eqb a b
 
-pub place_found : (names : List (List ℕ)) (text : List ℕ) (k : ℕ) → position (same_name text) names ≡ Some k → (k < length names) × (get_or names k [] ≡ text)
+pub place_found : (names : List (List ℕ)) (text : List ℕ) (k : ℕ) → position (same_name text) names ≡ Some k
+    → (k < length names) × (get_or names k [] ≡ text)
 place_found names text k e =
     let p = position-Some (same_name text) names k [] e in
     (p.0, sym ((bytes_decides text (get_or names k [])).0 p.1))
 
-pub place_missing : (names : List (List ℕ)) (text : List ℕ) (k : ℕ) → position (same_name text) names ≡ None → k < length names → get_or names k [] ≢ text
+pub place_missing : (names : List (List ℕ)) (text : List ℕ) (k : ℕ) → position (same_name text) names ≡ None → k < length names
+    → get_or names k [] ≢ text
 place_missing names text k e h same =
     let fails = position-none (same_name text) names k [] e h in
     true≢false (sym ((bytes_decides text (get_or names k [])).1 (sym same)) ∙ fails)
@@ -33,7 +36,8 @@ pub AreDistinct-from_unique : (names : List (List ℕ)) → IsDistinct same_name
 AreDistinct-from_unique names h i j lt short = AllPairs-from_IsDistinct bytes_decides names h i j [] lt short
 
 -- a name that comes again spoils it
-pub repeated_name : (names : List (List ℕ)) (text : List ℕ) (others : List (List ℕ)) → Contains names text → AreDistinct (names ++ text ∷ others) → ⊥
+pub repeated_name : (names : List (List ℕ)) (text : List ℕ) (others : List (List ℕ)) → Contains names text
+    → AreDistinct (names ++ text ∷ others) → ⊥
 repeated_name names text others there distinct =
     let k = there.0 in
     let short : k < length names = there.1 in

@@ -1,5 +1,6 @@
 -- The names of a line are known exactly where each is, one after the other.
-use Rattle.std.proofs.Common.{◌≡◌, ◌<◌, ℕ, Bool, true, false, ◌&&◌, List, [], ◌∷◌, length, get_or, Option, Some, None, is_some, refl, sym, subst}
+use Rattle.std.proofs.Common.{◌≡◌, ◌<◌, ℕ, Bool, true, false, ◌&&◌, List, [], ◌∷◌, length, get_or, Option, Some, None, is_some, refl, sym}
+use Rattle.std.proofs.Common.{subst}
 use Rattle.lpres_reader.specs.Tokens.{Token, name, number, symbol, ReadsTokens}
 use Rattle.lpres_reader.specs.Front.{Front, line_end, token_first, front_of}
 use Rattle.lpres_reader.specs.Trees.{place_of, AreKnown}
@@ -8,7 +9,8 @@ use Rattle.lpres_reader.proofs.texts.FrontLemmas.{Follows, follows}
 use Rattle.lpres_reader.proofs.texts.LineTokens.{end_only}
 use Rattle.lpres_reader.proofs.names.Places.{place_of-Some, place_of-None}
 
-name_known : (names : List (List ℕ)) (n : List ℕ) (o : Option ℕ) → place_of names n ≡ o → is_some o ≡ true → (k : ℕ) × (k < length names) × (get_or names k [] ≡ n)
+name_known : (names : List (List ℕ)) (n : List ℕ) (o : Option ℕ) → place_of names n ≡ o → is_some o ≡ true
+    → (k : ℕ) × (k < length names) × (get_or names k [] ≡ n)
 name_known names n None e t = absurd (cc t)
 name_known names n (Some k) e t = let at = place_of-Some names n k e in (k, at.0, at.1)
 
@@ -22,7 +24,8 @@ tail_known names (name n) ts h = h.1
 tail_known names (number d) ts h = h
 tail_known names (symbol s) ts h = h
 
-name_unknown : (names : List (List ℕ)) (n : List ℕ) (o : Option ℕ) → place_of names n ≡ o → is_some o ≡ false → (k : ℕ) × (k < length names) × (get_or names k [] ≡ n) → ⊥
+name_unknown : (names : List (List ℕ)) (n : List ℕ) (o : Option ℕ) → place_of names n ≡ o → is_some o ≡ false
+    → (k : ℕ) × (k < length names) × (get_or names k [] ≡ n) → ⊥
 name_unknown names n None e f h = place_of-None names n h.0 e h.1 h.2
 name_unknown names n (Some k) e f h = cc
 
@@ -44,10 +47,12 @@ pub record KnowsOn (names : List (List ℕ)) (line rest : List ℕ) : Type 0 whe
 pub knows_first : (names : List (List ℕ)) (line : List ℕ) → KnowsOn names line line
 knows_first names line = record { on = λ ts d. record { left = ts; spelled = d; to = λ h. h; from = λ h. h } }
 
-rest_is : (rest after : List ℕ) (t : Token) (us : List Token) → front_of rest ≡ token_first t after → ReadsTokens rest us → (vs : List Token) × (us ≡ t ∷ vs) × ReadsTokens after vs
+rest_is : (rest after : List ℕ) (t : Token) (us : List Token) → front_of rest ≡ token_first t after → ReadsTokens rest us
+    → (vs : List Token) × (us ≡ t ∷ vs) × ReadsTokens after vs
 rest_is rest after t us front d = subst (λ (f : Front). Follows f us) front (follows d)
 
-knows_next : (names : List (List ℕ)) (line rest after : List ℕ) (t : Token) → KnowsOn names line rest → front_of rest ≡ token_first t after → is_known names t ≡ true → KnowsOn names line after
+knows_next : (names : List (List ℕ)) (line rest after : List ℕ) (t : Token) → KnowsOn names line rest → front_of rest ≡ token_first t after
+    → is_known names t ≡ true → KnowsOn names line after
 knows_next names line rest after t k front e = record {
   on = λ ts d.
       let a = k.on ts d in
@@ -60,14 +65,16 @@ knows_next names line rest after t k front e = record {
       };
 }
 
-knows_not : (names : List (List ℕ)) (line rest after : List ℕ) (t : Token) → KnowsOn names line rest → front_of rest ≡ token_first t after → is_known names t ≡ false
+knows_not : (names : List (List ℕ)) (line rest after : List ℕ) (t : Token) → KnowsOn names line rest → front_of rest ≡ token_first t after
+    → is_known names t ≡ false
     → (ts : List Token) → ReadsTokens line ts → ¬ AreKnown names ts
 knows_not names line rest after t k front e ts d h =
     let a = k.on ts d in
     let b = rest_is rest after t a.left front a.spelled in
     token_unknown names t b.0 e (subst (AreKnown names) b.1 (a.to h))
 
-knows_all : (names : List (List ℕ)) (line rest : List ℕ) → KnowsOn names line rest → front_of rest ≡ line_end → (ts : List Token) → ReadsTokens line ts → AreKnown names ts
+knows_all : (names : List (List ℕ)) (line rest : List ℕ) → KnowsOn names line rest → front_of rest ≡ line_end → (ts : List Token)
+    → ReadsTokens line ts → AreKnown names ts
 knows_all names line rest k front ts d =
     let a = k.on ts d in
     a.from (subst (AreKnown names) (sym (end_only rest a.left front a.spelled)) tt)
@@ -77,11 +84,13 @@ abbrev pub KnownSoFar : List (List ℕ) → List ℕ → List ℕ → Bool → T
 KnownSoFar names line rest true = KnowsOn names line rest
 KnownSoFar names line rest false = (ts : List Token) → ReadsTokens line ts → ¬ AreKnown names ts
 
-pub known_next : (names : List (List ℕ)) (line rest after : List ℕ) (t : Token) (known b : Bool) → KnownSoFar names line rest known → front_of rest ≡ token_first t after → is_known names t ≡ b → KnownSoFar names line after (known && b)
+pub known_next : (names : List (List ℕ)) (line rest after : List ℕ) (t : Token) (known b : Bool) → KnownSoFar names line rest known
+    → front_of rest ≡ token_first t after → is_known names t ≡ b → KnownSoFar names line after (known && b)
 known_next names line rest after t true true k front e = knows_next names line rest after t k front e
 known_next names line rest after t true false k front e = knows_not names line rest after t k front e
 known_next names line rest after t false b k front e = k
 
-pub known_end : (names : List (List ℕ)) (line rest : List ℕ) (known : Bool) → KnownSoFar names line rest known → front_of rest ≡ line_end → (ts : List Token) → ReadsTokens line ts → TellsKnown names ts known
+pub known_end : (names : List (List ℕ)) (line rest : List ℕ) (known : Bool) → KnownSoFar names line rest known → front_of rest ≡ line_end
+    → (ts : List Token) → ReadsTokens line ts → TellsKnown names ts known
 known_end names line rest true k end = knows_all names line rest k end
 known_end names line rest false k end = k

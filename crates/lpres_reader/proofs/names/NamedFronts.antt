@@ -1,5 +1,6 @@
 -- A line has a name as its first token exactly where its front is this token.
-use Rattle.std.proofs.Common.{◌≡◌, ℕ, cond, eqb, List, [], ◌∷◌, ◌++◌, take, drop, Option, Some, None, refl, ap, sym, subst, ◌∙◌, append_assoc}
+use Rattle.std.proofs.Common.{◌≡◌, ℕ, cond, eqb, List, [], ◌∷◌, ◌++◌, take, drop, Option, Some, None, refl, ap, sym, subst, ◌∙◌}
+use Rattle.std.proofs.Common.{append_assoc}
 use Rattle.std.specs.List.{prefix_len}
 use Rattle.std.specs.Char.{is_ascii_digit}
 use Rattle.std.proofs.lemmas.Bool.{cond-true, cond_both}
@@ -8,15 +9,18 @@ use Rattle.pq_base.specs.Name.{is_letter, is_name_byte}
 use Rattle.lpres_reader.specs.declared.token.Symbol.{Symbol}
 use Rattle.lpres_reader.specs.declared.token.Symbol.TheVariants.{Arrow, Minus}
 use Rattle.lpres_reader.specs.Lines.{is_blank}
-use Rattle.lpres_reader.specs.Tokens.{Token, name, number, symbol, StopsBefore, BeginsWithName, ReadsTokens, no_more, blank_first, name_first, number_first, symbol_first}
+use Rattle.lpres_reader.specs.Tokens.{Token, name, number, symbol, StopsBefore, BeginsWithName, ReadsTokens, no_more, blank_first}
+use Rattle.lpres_reader.specs.Tokens.{name_first, number_first, symbol_first}
 use Rattle.lpres_reader.specs.Front.{Front, token_first, symbol_of, front_at_symbol, front_at_minus, front_at_run, front_at, front_of}
 use Rattle.lpres_reader.proofs.texts.FrontLemmas.{name_front, name_text, StopsBefore-prefix}
 
-stops_behind : (more rest : List ℕ) → StopsBefore is_name_byte more → StopsBefore is_name_byte rest → StopsBefore is_name_byte (more ++ rest)
+stops_behind : (more rest : List ℕ) → StopsBefore is_name_byte more → StopsBefore is_name_byte rest
+    → StopsBefore is_name_byte (more ++ rest)
 stops_behind [] rest h k = k
 stops_behind (b ∷ more) rest h k = h
 
-front_behind : (n rest : List ℕ) {front : List ℕ} {ts : List Token} → ReadsTokens front ts → ts ≡ name n ∷ [] → StopsBefore is_name_byte rest
+front_behind : (n rest : List ℕ) {front : List ℕ} {ts : List Token} → ReadsTokens front ts → ts ≡ name n ∷ []
+    → StopsBefore is_name_byte rest
     → (more : List ℕ) × (front_of (front ++ rest) ≡ token_first (name n) more)
 front_behind n rest no_more e stops = absurd cc
 front_behind n rest (blank_first b others is blank d) e stops =
@@ -26,7 +30,8 @@ front_behind n rest (name_first text others is formed ends d) e stops =
     let same : text ≡ n = cc in (
       others ++ rest,
       ap (λ (l : List ℕ). front_of (l ++ rest)) is ∙ ap front_of (append_assoc text others rest)
-          ∙ name_front text (others ++ rest) formed (stops_behind others rest ends stops) ∙ ap (λ (m : List ℕ). token_first (name m) (others ++ rest)) same,
+          ∙ name_front text (others ++ rest) formed (stops_behind others rest ends stops)
+          ∙ ap (λ (m : List ℕ). token_first (name m) (others ++ rest)) same,
     )
 front_behind n rest (number_first text others is formed ends d) e stops = absurd cc
 front_behind n rest (symbol_first s others is d) e stops = absurd cc
@@ -47,7 +52,8 @@ told_symbol n line (Some s) behind rest e = absurd cc
 told_minus : (n line : List ℕ) (behind : List ℕ) → Told n line (front_at_minus behind)
 told_minus n line [] = λ rest e. absurd cc
 told_minus n line (b ∷ behind) =
-    cond_both (eqb b 62) (token_first (symbol Arrow) behind) (token_first (symbol Minus) (b ∷ behind)) (Told n line) (λ _ rest e. absurd cc) (λ _ rest e. absurd cc)
+    cond_both (eqb b 62) (token_first (symbol Arrow) behind) (token_first (symbol Minus) (b ∷ behind)) (Told n line) (λ _ rest e. absurd cc)
+    (λ _ rest e. absurd cc)
 
 told_at : (n : List ℕ) (b : ℕ) (behind : List ℕ) → Told n (b ∷ behind) (front_at b behind)
 told_at n b behind =
@@ -60,7 +66,8 @@ told_at n b behind =
     (λ letter rest e.
     let is : take k line ≡ n = cc in
     let whole : take k line ≡ take k line ++ [] = sym (append-nil (take k line)) in
-    let alone : ReadsTokens (take k line) (name (take k line) ∷ []) = name_first (take k line) [] whole (name_text b behind letter) tt no_more in
+    let alone : ReadsTokens (take k line) (name (take k line) ∷ []) =
+    name_first (take k line) [] whole (name_text b behind letter) tt no_more in
     record {
       front = take k line;
       rest = drop k line;
@@ -70,7 +77,8 @@ told_at n b behind =
     })
     (λ _. cond_both (is_ascii_digit b) (front_at_run number is_ascii_digit line) at_minus (Told n line)
     (λ _ rest e. absurd cc)
-    (λ _. cond_both (eqb b 45) (front_at_minus behind) at_symbol (Told n line) (λ _. told_minus n line behind) (λ _. told_symbol n line (symbol_of b) behind)))
+    (λ _. cond_both (eqb b 45) (front_at_minus behind) at_symbol (Told n line) (λ _. told_minus n line behind)
+    (λ _. told_symbol n line (symbol_of b) behind)))
 
 pub named_front : (n line : List ℕ) → Told n line (front_of line)
 named_front n [] = λ rest e. absurd cc
@@ -78,5 +86,11 @@ named_front n (b ∷ line) =
     cond_both (is_blank b) (front_of line) (front_at b line) (Told n (b ∷ line))
     (λ blank rest e.
     let m = named_front n line rest e in
-    record { front = b ∷ m.front; rest = m.rest; is = ap (λ (l : List ℕ). b ∷ l) m.is; token = blank_first b m.front refl blank m.token; stops = m.stops })
+    record {
+      front = b ∷ m.front;
+      rest = m.rest;
+      is = ap (λ (l : List ℕ). b ∷ l) m.is;
+      token = blank_first b m.front refl blank m.token;
+      stops = m.stops;
+    })
     (λ _. told_at n b line)

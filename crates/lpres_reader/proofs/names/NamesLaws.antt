@@ -1,5 +1,6 @@
 -- Tokens are those of at most one list of names, and there is such a list or there is none.
-use Rattle.std.proofs.Common.{◌≡◌, ◌≤◌, ℕ, List, [], ◌∷◌, map, length, bytes_eq, codes, Option, Some, None, option_map, MatchOption, refl, sym, ap, subst, ◌∙◌, arith}
+use Rattle.std.proofs.Common.{◌≡◌, ◌≤◌, ℕ, List, [], ◌∷◌, map, length, bytes_eq, codes, Option, Some, None, option_map, MatchOption, refl}
+use Rattle.std.proofs.Common.{sym, ap, subst, ◌∙◌, arith}
 use Rattle.std.proofs.lemmas.Bool.{true≢false, cond_both}
 use Rattle.std.proofs.lemmas.Slice.Eq.{bytes_eq-Decides}
 use Rattle.lpres_reader.specs.declared.token.Symbol.TheVariants.{Comma}
@@ -9,7 +10,8 @@ use Rattle.lpres_reader.specs.Reads.{IsGenerators}
 use Rattle.lpres_reader.specs.Verdicts.{names_of, generator_names}
 
 -- tokens of names begin with a name, so what stands behind a name and no comma is seen whole
-behind_name : (n : List ℕ) (ts : List Token) (ns : List (List ℕ)) → ReadsNames ts ns → names_of (name n ∷ ts) ≡ option_map (λ ms. n ∷ ms) (names_of ts)
+behind_name : (n : List ℕ) (ts : List Token) (ns : List (List ℕ)) → ReadsNames ts ns
+    → names_of (name n ∷ ts) ≡ option_map (λ ms. n ∷ ms) (names_of ts)
 behind_name n ts ns (last_name m) = refl
 behind_name n ts ns (next_name m d) = refl
 behind_name n ts ns (next_name_after_comma m d) = refl
@@ -23,14 +25,16 @@ abbrev AreNamesOf : Option (List (List ℕ)) → List Token → Type 0
 AreNamesOf None ts = Unit {0}
 AreNamesOf (Some ns) ts = ReadsNames ts ns
 
-mapped : (o : Option (List (List ℕ))) (n : List ℕ) (ts us : List Token) → ((ns : List (List ℕ)) → ReadsNames ts ns → ReadsNames us (n ∷ ns)) → AreNamesOf o ts → AreNamesOf (option_map (λ l. n ∷ l) o) us
+mapped : (o : Option (List (List ℕ))) (n : List ℕ) (ts us : List Token) → ((ns : List (List ℕ)) → ReadsNames ts ns → ReadsNames us (n ∷ ns))
+    → AreNamesOf o ts → AreNamesOf (option_map (λ l. n ∷ l) o) us
 mapped None n ts us f h = tt
 mapped (Some ns) n ts us f h = f ns h
 
 reads-names_of : (ts : List Token) → AreNamesOf (names_of ts) ts
 reads-names_of [] = tt
 reads-names_of (name n ∷ []) = last_name n
-reads-names_of (name n ∷ symbol Comma ∷ ts) = mapped (names_of ts) n ts (name n ∷ symbol Comma ∷ ts) (λ ns d. next_name_after_comma n d) (reads-names_of ts)
+reads-names_of (name n ∷ symbol Comma ∷ ts) =
+    mapped (names_of ts) n ts (name n ∷ symbol Comma ∷ ts) (λ ns d. next_name_after_comma n d) (reads-names_of ts)
 reads-names_of (name n ∷ ts) = mapped (names_of ts) n ts (name n ∷ ts) (λ ns d. next_name n d) (reads-names_of ts)
 reads-names_of (number digits ∷ ts) = tt
 reads-names_of (symbol s ∷ ts) = tt
@@ -86,7 +90,8 @@ generator_names_right (name n ∷ ts) =
     (λ e ns d. let same : name n ∷ ts ≡ name (codes "generators") ∷ d.0 = d.1 in
     let is : n ≡ codes "generators" = cc in true≢false (sym ((bytes_eq-Decides n (codes "generators")).1 is) ∙ e))
   where
-    by : n ≡ codes "generators" → (o : Option (List (List ℕ))) → MatchOption o ((ns : List (List ℕ)) → ReadsNames ts ns → ⊥) (ReadsNames ts) → AreGenerators (name n ∷ ts) o
+    by : n ≡ codes "generators" → (o : Option (List (List ℕ))) → MatchOption o ((ns : List (List ℕ)) → ReadsNames ts ns → ⊥) (ReadsNames ts)
+        → AreGenerators (name n ∷ ts) o
     by is None never = λ ns d. let same : name n ∷ ts ≡ name (codes "generators") ∷ d.0 = d.1 in
         let tail : d.0 ≡ ts = cc in never ns (subst (λ (us : List Token). ReadsNames us ns) tail d.2)
     by is (Some ns) d = (ts, ap (λ (m : List ℕ). name m ∷ ts) is, d)

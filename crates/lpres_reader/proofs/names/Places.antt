@@ -11,7 +11,8 @@ place_of-Some names n k e = place_found names n k e
 pub place_of-None : (names : List (List ℕ)) (n : List ℕ) (k : ℕ) → place_of names n ≡ None → k < length names → get_or names k [] ≢ n
 place_of-None names n k e short = place_missing names n k e short
 
-pub place_unique : (names : List (List ℕ)) (i j : ℕ) → AreDistinct names → i < length names → j < length names → get_or names i [] ≡ get_or names j [] → i ≡ j
+pub place_unique : (names : List (List ℕ)) (i j : ℕ) → AreDistinct names → i < length names → j < length names
+    → get_or names i [] ≡ get_or names j [] → i ≡ j
 place_unique names i j distinct hi hj same = elim (cases_order i j) [
   | inl e ↦ e
   | inr apart ↦ elim apart [
@@ -20,7 +21,8 @@ place_unique names i j distinct hi hj same = elim (cases_order i j) [
   ]
 ]
 
-pub place_of-known : (names : List (List ℕ)) (n : List ℕ) (k : ℕ) → AreDistinct names → k < length names → get_or names k [] ≡ n → place_of names n ≡ Some k
+pub place_of-known : (names : List (List ℕ)) (n : List ℕ) (k : ℕ) → AreDistinct names → k < length names → get_or names k [] ≡ n
+    → place_of names n ≡ Some k
 place_of-known names n k distinct short is = by (place_of names n) refl
   where
     by : (o : Option ℕ) → place_of names n ≡ o → o ≡ Some k

@@ -1,6 +1,7 @@
 -- A power of a power is one power, a conjugate of a conjugate one conjugate, and the inverse of a conjugate the conjugate
 -- of the inverse.
-use Rattle.std.proofs.Common.{◌≡◌, ◌≤◌, ◌<◌, ℕ, zero, suc, ◌+◌, ◌*◌, Bool, true, false, ℤ, pos, neg_ℤ, List, [], ◌∷◌, length, refl, ap, sym, ◌∙◌, arith}
+use Rattle.std.proofs.Common.{◌≡◌, ◌≤◌, ◌<◌, ℕ, zero, suc, ◌+◌, ◌*◌, Bool, true, false, ℤ, pos, neg_ℤ, List, [], ◌∷◌, length, refl, ap, sym}
+use Rattle.std.proofs.Common.{◌∙◌, arith}
 use Rattle.std.proofs.lemmas.List.{append-nil}
 use mathlib.Core.Bool.{not, beq}
 use Rattle.std.proofs.Math.Nat.{zero-mul, mul_assoc, mul_comm, le-mul_of_pos_right}
@@ -45,12 +46,15 @@ signed-conj false u v = refl
 -- the inverse of a factor
 pub factor-signed : (b c : Bool) (u v : List ℤ) (t : ℕ) → conj (power_of (not (beq c b)) u t) v ≡ power_of b (conj (power_of c u t) v) 1
 factor-signed b c u v t =
-    sym (copies-one (signed b (conj (power_of c u t) v)) ∙ signed-conj b (power_of c u t) v ∙ ap (λ (x : List ℤ). conj x v) (signed-power_of b c u t))
+    sym (copies-one (signed b (conj (power_of c u t) v))
+    ∙ signed-conj b (power_of c u t) v ∙ ap (λ (x : List ℤ). conj x v) (signed-power_of b c u t))
 
 -- so many copies of a factor that is no conjugate
-pub factor-repeated : (b c : Bool) (u v : List ℤ) (t s : ℕ) → length v ≡ 0 → conj (power_of (not (beq c b)) u (t * s)) v ≡ power_of b (conj (power_of c u t) v) s
+pub factor-repeated : (b c : Bool) (u v : List ℤ) (t s : ℕ) → length v ≡ 0
+    → conj (power_of (not (beq c b)) u (t * s)) v ≡ power_of b (conj (power_of c u t) v) s
 factor-repeated b c u [] t s e =
-    append-nil (power_of (not (beq c b)) u (t * s)) ∙ sym (ap (λ (x : List ℤ). power_of b x s) (append-nil (power_of c u t)) ∙ power_of-power_of b c u t s)
+    append-nil (power_of (not (beq c b)) u (t * s))
+    ∙ sym (ap (λ (x : List ℤ). power_of b x s) (append-nil (power_of c u t)) ∙ power_of-power_of b c u t s)
 factor-repeated b c u (k ∷ v) t s e = absurd (omega arith)
 
 pub power_of-empty : (b : Bool) (u : List ℤ) (s : ℕ) → length u ≡ 0 → u ≡ power_of b u s

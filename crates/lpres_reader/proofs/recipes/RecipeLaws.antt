@@ -1,5 +1,6 @@
 -- Steps are taken one after the other, and a step whose numbers are the lengths of the last words changes these alone.
-use Rattle.std.proofs.Common.{◌≡◌, ◌≤◌, ◌<◌, ℕ, suc, ◌+◌, ◌-◌, ◌*◌, Bool, true, false, ℤ, pos, List, [], ◌∷◌, ◌++◌, length, take, drop, refl, ap, sym, ◌∙◌, append_assoc, arith}
+use Rattle.std.proofs.Common.{◌≡◌, ◌≤◌, ◌<◌, ℕ, suc, ◌+◌, ◌-◌, ◌*◌, Bool, true, false, ℤ, pos, List, [], ◌∷◌, ◌++◌, length, take, drop}
+use Rattle.std.proofs.Common.{refl, ap, sym, ◌∙◌, append_assoc, arith}
 use Rattle.std.proofs.lemmas.List.{append-nil, length-append}
 use Rattle.std.proofs.Math.Seq.{take-append_seam, drop-append_seam}
 use Rattle.pq_base.specs.SignedWord.{comm, conj}
@@ -36,14 +37,17 @@ step-raise out w b t =
     ∙ ap (λ (x : List ℤ). out ++ power_of b x t) (last-append out w)
 
 step-two : (f : List ℤ → List ℤ → List ℤ) (out u v : List ℤ)
-    → without_last (length u + length v) (out ++ (u ++ v)) ++ f (take (length u) (last (length u + length v) (out ++ (u ++ v)))) (drop (length u) (last (length u + length v) (out ++ (u ++ v))))
+    → without_last (length u + length v) (out ++ (u ++ v))
+    ++ f (take (length u) (last (length u + length v) (out ++ (u ++ v)))) (drop (length u) (last (length u + length v) (out ++ (u ++ v))))
     ≡ out ++ f u v
 step-two f out u v =
     let n : length u + length v ≡ length (u ++ v) = sym (length-append u v) in
     let w = without_last-append out (u ++ v) in
     let l = last-append out (u ++ v) in
-    ap (λ (m : ℕ). without_last m (out ++ (u ++ v)) ++ f (take (length u) (last m (out ++ (u ++ v)))) (drop (length u) (last m (out ++ (u ++ v))))) n
-    ∙ ap (λ (x : List ℤ). x ++ f (take (length u) (last (length (u ++ v)) (out ++ (u ++ v)))) (drop (length u) (last (length (u ++ v)) (out ++ (u ++ v))))) w
+    ap (λ (m : ℕ). without_last m (out ++ (u ++ v))
+    ++ f (take (length u) (last m (out ++ (u ++ v)))) (drop (length u) (last m (out ++ (u ++ v))))) n
+    ∙ ap (λ (x : List ℤ). x ++ f (take (length u) (last (length (u ++ v)) (out ++ (u ++ v))))
+    (drop (length u) (last (length (u ++ v)) (out ++ (u ++ v))))) w
     ∙ ap (λ (x : List ℤ). out ++ f (take (length u) x) (drop (length u) x)) l
     ∙ ap (λ (x : List ℤ). out ++ f x (drop (length u) (u ++ v))) (take-append_seam u v)
     ∙ ap (λ (x : List ℤ). out ++ f u x) (drop-append_seam u v)
@@ -83,29 +87,43 @@ module _ (ss ts : List Step) (m n : ℕ) (r : IsRecipe ss m) (s : IsRecipe ts n)
       }
 
   -- with a step behind them that makes this of their words
-  with_step : (step : Step) (w : List ℤ) (k : ℕ) → ((out : List ℤ) → step_on (out ++ (written [] ss ++ written [] ts)) step ≡ out ++ w) → k ≡ length w → k ≤ 65536
+  with_step : (step : Step) (w : List ℤ) (k : ℕ) → ((out : List ℤ) → step_on (out ++ (written [] ss ++ written [] ts)) step ≡ out ++ w)
+      → k ≡ length w → k ≤ 65536
       → (written [] (ss ++ ts ++ step ∷ []) ≡ w) × IsRecipe (ss ++ ts ++ step ∷ []) k
   with_step step w k makes is small =
       let all : (out : List ℤ) → written out (ss ++ ts ++ step ∷ []) ≡ out ++ w = λ out.
-      written-append out (ss ++ ts) (step ∷ []) ∙ ap (λ (x : List ℤ). step_on x step) (written-both out) ∙ makes out in
-      (all [], record { behind = λ out. all out ∙ ap (λ (x : List ℤ). out ++ x) (sym (all [])); count = is ∙ ap length (sym (all [])); limit = small })
+      written-append out (ss ++ ts) (step ∷ []) ∙ ap (λ (x : List ℤ). step_on x step) (written-both out) ∙ makes out in (
+        all [],
+        record {
+          behind = λ out. all out ∙ ap (λ (x : List ℤ). out ++ x) (sym (all []));
+          count = is ∙ ap length (sym (all []));
+          limit = small;
+        },
+      )
 
   pub recipe-conjugate : n + 2 * m ≤ 65536
-      → (written [] (ss ++ ts ++ Conjugate m n ∷ []) ≡ conj (written [] ts) (written [] ss)) × IsRecipe (ss ++ ts ++ Conjugate m n ∷ []) (n + 2 * m)
+      → (written [] (ss ++ ts ++ Conjugate m n ∷ []) ≡ conj (written [] ts) (written [] ss))
+      × IsRecipe (ss ++ ts ++ Conjugate m n ∷ []) (n + 2 * m)
   recipe-conjugate small =
       with_step (Conjugate m n) (conj (written [] ts) (written [] ss)) (n + 2 * m)
-      (λ out. ap (λ (i : ℕ). step_on (out ++ (written [] ss ++ written [] ts)) (Conjugate i n)) r.count ∙ ap (λ (i : ℕ). step_on (out ++ (written [] ss ++ written [] ts)) (Conjugate (length (written [] ss)) i)) s.count ∙ step-conjugate out (written [] ts) (written [] ss))
+      (λ out. ap (λ (i : ℕ). step_on (out ++ (written [] ss ++ written [] ts)) (Conjugate i n)) r.count
+      ∙ ap (λ (i : ℕ). step_on (out ++ (written [] ss ++ written [] ts)) (Conjugate (length (written [] ss)) i)) s.count
+      ∙ step-conjugate out (written [] ts) (written [] ss))
       (omega (arith, r.count, s.count, length-conj (written [] ts) (written [] ss))) small
 
   pub recipe-commute : 2 * (m + n) ≤ 65536
-      → (written [] (ss ++ ts ++ Commute m n ∷ []) ≡ comm (written [] ss) (written [] ts)) × IsRecipe (ss ++ ts ++ Commute m n ∷ []) (2 * (m + n))
+      → (written [] (ss ++ ts ++ Commute m n ∷ []) ≡ comm (written [] ss) (written [] ts))
+      × IsRecipe (ss ++ ts ++ Commute m n ∷ []) (2 * (m + n))
   recipe-commute small =
       with_step (Commute m n) (comm (written [] ss) (written [] ts)) (2 * (m + n))
-      (λ out. ap (λ (i : ℕ). step_on (out ++ (written [] ss ++ written [] ts)) (Commute i n)) r.count ∙ ap (λ (i : ℕ). step_on (out ++ (written [] ss ++ written [] ts)) (Commute (length (written [] ss)) i)) s.count ∙ step-commute out (written [] ss) (written [] ts))
+      (λ out. ap (λ (i : ℕ). step_on (out ++ (written [] ss ++ written [] ts)) (Commute i n)) r.count
+      ∙ ap (λ (i : ℕ). step_on (out ++ (written [] ss ++ written [] ts)) (Commute (length (written [] ss)) i)) s.count
+      ∙ step-commute out (written [] ss) (written [] ts))
       (omega (arith, r.count, s.count, length-comm (written [] ss) (written [] ts))) small
 
 -- with one generator more
-pub recipe-push : (ss : List Step) (m k : ℕ) → IsRecipe ss m → m < 65536 → (written [] (ss ++ Generator k ∷ []) ≡ written [] ss ++ pos (suc k) ∷ []) × IsRecipe (ss ++ Generator k ∷ []) (m + 1)
+pub recipe-push : (ss : List Step) (m k : ℕ) → IsRecipe ss m → m < 65536
+    → (written [] (ss ++ Generator k ∷ []) ≡ written [] ss ++ pos (suc k) ∷ []) × IsRecipe (ss ++ Generator k ∷ []) (m + 1)
 recipe-push ss m k r small =
     let g = recipe-generator k in
     (written-both ss (Generator k ∷ []) m 1 r g [], recipe-followed ss (Generator k ∷ []) m 1 r g (omega arith))

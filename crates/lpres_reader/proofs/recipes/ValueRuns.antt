@@ -14,10 +14,12 @@ pub runs_first : (names : List (List ℕ)) (line : List ℕ) (first : Value) →
 runs_first names line first = record { on = λ ts d. (ts, d, refl); within = omega arith }
 
 -- the rest of a line with a token at its front
-rest_is : (rest after : List ℕ) (t : Token) (us : List Token) → front_of rest ≡ token_first t after → ReadsTokens rest us → (vs : List Token) × (us ≡ t ∷ vs) × ReadsTokens after vs
+rest_is : (rest after : List ℕ) (t : Token) (us : List Token) → front_of rest ≡ token_first t after → ReadsTokens rest us
+    → (vs : List Token) × (us ≡ t ∷ vs) × ReadsTokens after vs
 rest_is rest after t us front d = subst (λ (f : Front). Follows f us) front (follows d)
 
-pub runs_next : (names : List (List ℕ)) (line rest after : List ℕ) (first last next : Value) (t : Token) → RunsOn names line rest first last → front_of rest ≡ token_first t after
+pub runs_next : (names : List (List ℕ)) (line rest after : List ℕ) (first last next : Value) (t : Token) → RunsOn names line rest first last
+    → front_of rest ≡ token_first t after
     → value_step names last t ≡ Ok next → RunsOn names line after first next
 runs_next names line rest after first last next t r front e = record {
   on = λ ts d.
@@ -27,7 +29,8 @@ runs_next names line rest after first last next t r front e = record {
   within = let shorter = rest_is_shorter rest after t front in omega (arith, r.within);
 }
 
-pub runs_joined : (names : List (List ℕ)) (line rest after : List ℕ) (first last next : Value) → RunsOn names line rest first last → RunsOn names rest after last next → RunsOn names line after first next
+pub runs_joined : (names : List (List ℕ)) (line rest after : List ℕ) (first last next : Value) → RunsOn names line rest first last
+    → RunsOn names rest after last next → RunsOn names line after first next
 runs_joined names line rest after first last next r q = record {
   on = λ ts d.
       let a = r.on ts d in
@@ -36,27 +39,32 @@ runs_joined names line rest after first last next r q = record {
   within = omega (arith, r.within, q.within);
 }
 
-pub runs_shorten : (names : List (List ℕ)) (line rest : List ℕ) (first last : Value) {n : ℕ} → RunsOn names line rest first last → length line < n → length rest < n
+pub runs_shorten : (names : List (List ℕ)) (line rest : List ℕ) (first last : Value) {n : ℕ} → RunsOn names line rest first last
+    → length line < n → length rest < n
 runs_shorten names line rest first last r short = omega (arith, r.within)
 
-pub runs_to_refused : (names : List (List ℕ)) (line rest : List ℕ) (first last : Value) → RunsOn names line rest first last → (s : Stop) → Refuses (StopsAt names last rest) s
+pub runs_to_refused : (names : List (List ℕ)) (line rest : List ℕ) (first last : Value) → RunsOn names line rest first last → (s : Stop)
+    → Refuses (StopsAt names last rest) s
     → (ts : List Token) → ReadsTokens line ts → Given (Err s) (value_run names first ts)
 runs_to_refused names line rest first last r NoMemory h ts d = tt
 runs_to_refused names line rest first last r (Fault k) h ts d = let a = r.on ts d in a.2 ∙ h a.0 a.1
 
-pub runs_stopped : (names : List (List ℕ)) (line rest after : List ℕ) (first last : Value) (t : Token) (s : Stop) → RunsOn names line rest first last → front_of rest ≡ token_first t after
+pub runs_stopped : (names : List (List ℕ)) (line rest after : List ℕ) (first last : Value) (t : Token) (s : Stop)
+    → RunsOn names line rest first last → front_of rest ≡ token_first t after
     → value_step names last t ≡ Err s → (ts : List Token) → ReadsTokens line ts → value_run names first ts ≡ Err s
 runs_stopped names line rest after first last t s r front e ts d =
     let a = r.on ts d in
     let b = rest_is rest after t a.0 front a.1 in
     a.2 ∙ ap (value_run names last) b.1 ∙ ap (λ (x : Result Value Stop). followed x (λ n. value_run names n b.0)) e
 
-pub runs_nowhere : (names : List (List ℕ)) (line rest : List ℕ) (first last : Value) → RunsOn names line rest first last → front_of rest ≡ no_token → (ts : List Token) → ReadsTokens line ts → ⊥
+pub runs_nowhere : (names : List (List ℕ)) (line rest : List ℕ) (first last : Value) → RunsOn names line rest first last
+    → front_of rest ≡ no_token → (ts : List Token) → ReadsTokens line ts → ⊥
 runs_nowhere names line rest first last r front ts d =
     let a = r.on ts d in
     no_tokens rest a.0 front a.1
 
-pub runs_to_end : (names : List (List ℕ)) (line rest : List ℕ) (first last : Value) → RunsOn names line rest first last → front_of rest ≡ line_end → (ts : List Token) → ReadsTokens line ts
+pub runs_to_end : (names : List (List ℕ)) (line rest : List ℕ) (first last : Value) → RunsOn names line rest first last
+    → front_of rest ≡ line_end → (ts : List Token) → ReadsTokens line ts
     → value_run names first ts ≡ value_end last
 runs_to_end names line rest first last r front ts d =
     let a = r.on ts d in
@@ -69,6 +77,7 @@ given_same (Err NoMemory) e f s g = tt
 given_same (Err (Fault k)) e f s g = s ∙ g
 
 -- a stop is handed on
-pub given_stop : {X Y : Type 0} (s : Stop) (e : Result X Stop) (f : Result Y Stop) → (e ≡ Err s → f ≡ Err s) → Given (Err s) e → Given (Err s) f
+pub given_stop : {X Y : Type 0} (s : Stop) (e : Result X Stop) (f : Result Y Stop) → (e ≡ Err s → f ≡ Err s) → Given (Err s) e
+    → Given (Err s) f
 given_stop NoMemory e f h g = tt
 given_stop (Fault k) e f h g = h g

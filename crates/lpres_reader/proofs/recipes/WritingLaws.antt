@@ -1,9 +1,11 @@
 -- Taking the steps of a recipe one by one writes its word, and each letter fits 32 bits.
-use Rattle.std.proofs.Common.{◌≡◌, ◌<◌, ℕ, suc, ◌+◌, ◌-◌, Bool, true, false, ℤ, List, ◌++◌, length, take, drop, get_or, Result, Ok, Err, ap, sym, subst, ◌∙◌, drop-cons, arith}
+use Rattle.std.proofs.Common.{◌≡◌, ◌<◌, ℕ, suc, ◌+◌, ◌-◌, Bool, true, false, ℤ, List, ◌++◌, length, take, drop, get_or, Result, Ok, Err, ap}
+use Rattle.std.proofs.Common.{sym, subst, ◌∙◌, drop-cons, arith}
 use Rattle.std.specs.Prelude.{OnOk}
 use Rattle.std.proofs.lemmas.List.{take-append-drop}
 use Rattle.pq_base.specs.SignedWord.{HasLetters}
-use Rattle.pq_base.proofs.words.LetterLaws.{HasLetters-append, HasLetters-append_left, HasLetters-append_right, HasLetters-inv, HasLetters-copies}
+use Rattle.pq_base.proofs.words.LetterLaws.{HasLetters-append, HasLetters-append_left, HasLetters-append_right, HasLetters-inv}
+use Rattle.pq_base.proofs.words.LetterLaws.{HasLetters-copies}
 use Rattle.lpres_reader.specs.declared.recipe.Step.{Step}
 use Rattle.lpres_reader.specs.Recipes.{signed, power_of, last, without_last, step_on, written}
 
@@ -27,7 +29,8 @@ pub HasLetters-power_of : (n : ℕ) (b : Bool) (u : List ℤ) (t : ℕ) → HasL
 HasLetters-power_of n b u t h = HasLetters-copies n (signed b u) t (HasLetters-signed n b u h)
 
 -- one step after the steps so far
-pub written-next : (out : List ℤ) (ss : List Step) (i : ℕ) (d : Step) → i < length ss → written out (drop i ss) ≡ written (step_on out (get_or ss i d)) (drop (i + 1) ss)
+pub written-next : (out : List ℤ) (ss : List Step) (i : ℕ) (d : Step) → i < length ss
+    → written out (drop i ss) ≡ written (step_on out (get_or ss i d)) (drop (i + 1) ss)
 written-next out ss i d lt =
     ap (written out) (drop-cons ss i d lt) ∙ ap (λ (k : ℕ). written (step_on out (get_or ss i d)) (drop k ss)) one
   where
@@ -35,6 +38,8 @@ written-next out ss i d lt =
     one = omega arith
 
 -- letters that come behind others
-pub letters_behind : {X E : Type 0} (r : Result X E) (n : ℕ) (old new front w : List ℤ) → old ≡ front → HasLetters n front → HasLetters n w → OnOk r (new ≡ old ++ w) → OnOk r (HasLetters n new)
-letters_behind (Ok x) n old new front w e f g is = subst (HasLetters n) (sym (is ∙ ap (λ (u : List ℤ). u ++ w) e)) (HasLetters-append n front w f g)
+pub letters_behind : {X E : Type 0} (r : Result X E) (n : ℕ) (old new front w : List ℤ) → old ≡ front → HasLetters n front → HasLetters n w
+    → OnOk r (new ≡ old ++ w) → OnOk r (HasLetters n new)
+letters_behind (Ok x) n old new front w e f g is =
+    subst (HasLetters n) (sym (is ∙ ap (λ (u : List ℤ). u ++ w) e)) (HasLetters-append n front w f g)
 letters_behind (Err x) n old new front w e f g is = tt

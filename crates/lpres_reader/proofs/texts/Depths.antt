@@ -1,5 +1,6 @@
 -- The depth of brackets is followed byte by byte: a line is shallow exactly where the rest is, from the brackets so far on.
-use Rattle.std.proofs.Common.{◌≡◌, ◌≤◌, ◌<◌, ◌+◌, ℕ, suc, Bool, true, false, List, [], ◌∷◌, length, get_or, drop, refl, sym, subst, ◌∙◌, arith}
+use Rattle.std.proofs.Common.{◌≡◌, ◌≤◌, ◌<◌, ◌+◌, ℕ, suc, Bool, true, false, List, [], ◌∷◌, length, get_or, drop, refl, sym, subst, ◌∙◌}
+use Rattle.std.proofs.Common.{arith}
 use Rattle.std.proofs.lemmas.List.{drop_all}
 use Rattle.std.proofs.Math.Seq.{drop-cons}
 use Rattle.lpres_reader.specs.Lines.{is_opening, is_closing, IsShallow}
@@ -28,7 +29,8 @@ record Over (line : List ℕ) (i opened closed o c : ℕ) : Type 0 where
   to : ShallowFrom opened (closed + 64) (drop i line) → ShallowFrom o (c + 64) (drop (i + 1) line)
   from : opened ≤ closed + 64 → ShallowFrom o (c + 64) (drop (i + 1) line) → ShallowFrom opened (closed + 64) (drop i line)
 
-over : (line : List ℕ) (i opened closed o c x y : ℕ) → i < length line → x ≡ one_if (is_opening (get_or line i 0)) → y ≡ one_if (is_closing (get_or line i 0)) → o ≡ opened + x → c ≡ closed + y
+over : (line : List ℕ) (i opened closed o c x y : ℕ) → i < length line → x ≡ one_if (is_opening (get_or line i 0))
+    → y ≡ one_if (is_closing (get_or line i 0)) → o ≡ opened + x → c ≡ closed + y
     → Over line i opened closed o c
 over line i opened closed o c x y lt ex ey eo ec =
     let b = get_or line i 0 in
@@ -51,7 +53,8 @@ one_small : (b : Bool) → one_if b ≤ 1
 one_small true = omega arith
 one_small false = omega arith
 
-pub depth_next : (line : List ℕ) (i opened closed x y : ℕ) → DepthAt line i opened closed → i < length line → x ≡ one_if (is_opening (get_or line i 0)) → y ≡ one_if (is_closing (get_or line i 0))
+pub depth_next : (line : List ℕ) (i opened closed x y : ℕ) → DepthAt line i opened closed → i < length line
+    → x ≡ one_if (is_opening (get_or line i 0)) → y ≡ one_if (is_closing (get_or line i 0))
     → opened + x ≤ (closed + y) + 64 → DepthAt line (i + 1) (opened + x) (closed + y)
 depth_next line i opened closed x y d lt ex ey small =
     let step = over line i opened closed (opened + x) (closed + y) x y lt ex ey refl refl in
@@ -67,7 +70,8 @@ depth_next line i opened closed x y d lt ex ey small =
       from = λ h. d.from (step.from d.small h);
     }
 
-pub depth_over : (line : List ℕ) (i opened closed x y : ℕ) → DepthAt line i opened closed → i < length line → x ≡ one_if (is_opening (get_or line i 0)) → y ≡ one_if (is_closing (get_or line i 0))
+pub depth_over : (line : List ℕ) (i opened closed x y : ℕ) → DepthAt line i opened closed → i < length line
+    → x ≡ one_if (is_opening (get_or line i 0)) → y ≡ one_if (is_closing (get_or line i 0))
     → (closed + y) + 64 < opened + x → ¬ IsShallow line
 depth_over line i opened closed x y d lt ex ey large h =
     let step = over line i opened closed (opened + x) (closed + y) x y lt ex ey refl refl in

@@ -29,7 +29,8 @@ told_on n digits i m lt e =
     ∙ ap (λ (k : ℕ). told (digits_value_after 10 (n * 10 + digit_value (get_or digits i 0)) (drop k digits))) (sym one)
     ∙ ap (λ (l : List ℕ). told (digits_value_after 10 n l)) (sym here)
 
-pub told_end : (n : ℕ) (digits : List ℕ) (i : ℕ) → length digits ≤ i → n ≤ 999999999999999999 → n ≡ told (digits_value_after 10 n (drop i digits))
+pub told_end : (n : ℕ) (digits : List ℕ) (i : ℕ) → length digits ≤ i → n ≤ 999999999999999999
+    → n ≡ told (digits_value_after 10 n (drop i digits))
 told_end n digits i end small =
     let none : drop i digits ≡ [] = drop_all i digits end in
     let same : n ≡ told n = omega arith in

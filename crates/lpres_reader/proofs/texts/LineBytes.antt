@@ -11,9 +11,11 @@ use Rattle.std.proofs.lemmas.List.Folds.{list_all-append}
 use Rattle.std.proofs.lemmas.List.Sums.{sum_by-cons}
 use Rattle.pq_base.specs.Name.{is_letter, is_name_byte, IsNameText}
 use Rattle.lpres_reader.specs.declared.token.Symbol.{Symbol}
-use Rattle.lpres_reader.specs.declared.token.Symbol.TheVariants.{Arrow, Star, Caret, Minus, Equals, Comma, OpenRound, CloseRound, OpenSquare, CloseSquare}
+use Rattle.lpres_reader.specs.declared.token.Symbol.TheVariants.{Arrow, Star, Caret, Minus, Equals, Comma, OpenRound, CloseRound}
+use Rattle.lpres_reader.specs.declared.token.Symbol.TheVariants.{OpenSquare, CloseSquare}
 use Rattle.lpres_reader.specs.Lines.{is_blank, is_opening, IsShallow}
-use Rattle.lpres_reader.specs.Tokens.{Token, name, number, symbol, symbol_bytes, IsNumberText, ReadsTokens, no_more, blank_first, name_first, number_first, symbol_first}
+use Rattle.lpres_reader.specs.Tokens.{Token, name, number, symbol, symbol_bytes, IsNumberText, ReadsTokens, no_more, blank_first}
+use Rattle.lpres_reader.specs.Tokens.{name_first, number_first, symbol_first}
 
 -- neither a newline nor an opening bracket
 abbrev pub is_plain : ℕ → Bool
@@ -46,7 +48,8 @@ plain_name_byte b e = grind (arith, nat_tests)
 plain_digit : (b : ℕ) → is_ascii_digit b ≡ true → is_plain b ≡ true
 plain_digit b e = grind (arith, nat_tests)
 
-plain_run : (test : ℕ → Bool) → ((b : ℕ) → test b ≡ true → is_plain b ≡ true) → (bytes : List ℕ) → list_all test bytes ≡ true → list_all is_plain bytes ≡ true
+plain_run : (test : ℕ → Bool) → ((b : ℕ) → test b ≡ true → is_plain b ≡ true) → (bytes : List ℕ) → list_all test bytes ≡ true
+    → list_all is_plain bytes ≡ true
 plain_run test plain [] h = refl
 plain_run test plain (b ∷ bytes) h =
     let parts = and_parts (test b) (list_all test bytes) h in
@@ -78,11 +81,15 @@ plain_symbol CloseSquare h = refl
 plain_parts : (text rest : List ℕ) → list_all is_plain text ≡ true → list_all is_plain rest ≡ true → list_all is_plain (text ++ rest) ≡ true
 plain_parts text rest h g = list_all-append is_plain text rest ∙ and_from (list_all is_plain text) _ h g
 
-pub line_is_plain : {line : List ℕ} {ts : List Token} → ReadsTokens line ts → list_all is_plain_token ts ≡ true → list_all is_plain line ≡ true
+pub line_is_plain : {line : List ℕ} {ts : List Token} → ReadsTokens line ts → list_all is_plain_token ts ≡ true
+    → list_all is_plain line ≡ true
 line_is_plain no_more h = refl
-line_is_plain (blank_first b rest e blank d) h = ap (list_all is_plain) e ∙ and_from (is_plain b) _ (plain_blank b blank) (line_is_plain d h)
-line_is_plain (name_first text rest e is stops d) h = ap (list_all is_plain) e ∙ plain_parts text rest (plain_name text is) (line_is_plain d h)
-line_is_plain (number_first text rest e is stops d) h = ap (list_all is_plain) e ∙ plain_parts text rest (plain_number text is) (line_is_plain d h)
+line_is_plain (blank_first b rest e blank d) h =
+    ap (list_all is_plain) e ∙ and_from (is_plain b) _ (plain_blank b blank) (line_is_plain d h)
+line_is_plain (name_first text rest e is stops d) h =
+    ap (list_all is_plain) e ∙ plain_parts text rest (plain_name text is) (line_is_plain d h)
+line_is_plain (number_first text rest e is stops d) h =
+    ap (list_all is_plain) e ∙ plain_parts text rest (plain_number text is) (line_is_plain d h)
 line_is_plain (symbol_first {ts = us} s rest e d) h =
     let parts = and_parts (is_plain_symbol s) (list_all is_plain_token us) h in
     ap (list_all is_plain) e ∙ plain_parts (symbol_bytes s) rest (plain_symbol s parts.0) (line_is_plain d parts.1)

@@ -1,6 +1,7 @@
 -- Blanks at the front of a line change neither whether it is skipped nor its first token, and a text is its first line
 -- and the lines behind the first newline.
-use Rattle.std.proofs.Common.{◌≡◌, ℕ, suc, ◌+◌, ◌-◌, ◌<◌, ◌≤◌, Bool, true, false, cond, eqb, ltb, List, [], ◌∷◌, length, get_or, take, drop, refl, sym, ap, subst, ◌∙◌, arith, Some, None}
+use Rattle.std.proofs.Common.{◌≡◌, ℕ, suc, ◌+◌, ◌-◌, ◌<◌, ◌≤◌, Bool, true, false, cond, eqb, ltb, List, [], ◌∷◌, length, get_or, take, drop}
+use Rattle.std.proofs.Common.{refl, sym, ap, subst, ◌∙◌, arith, Some, None}
 use Rattle.std.specs.List.{prefix_len, position, position_or_len}
 use Rattle.std.proofs.lemmas.Bool.{ltb-true}
 use Rattle.std.proofs.lemmas.List.{take_all}
@@ -19,7 +20,8 @@ abbrev pub without_blanks : List ℕ → List ℕ
 without_blanks line = drop (prefix_len is_blank line) line
 
 -- what looks past blanks is what G sees behind them
-past_blanks : {X : Type 0} (F G : List ℕ → X) → F [] ≡ G [] → ((b : ℕ) (rest : List ℕ) → F (b ∷ rest) ≡ cond (is_blank b) (F rest) (G (b ∷ rest)))
+past_blanks : {X : Type 0} (F G : List ℕ → X) → F [] ≡ G []
+    → ((b : ℕ) (rest : List ℕ) → F (b ∷ rest) ≡ cond (is_blank b) (F rest) (G (b ∷ rest)))
     → (line : List ℕ) → F line ≡ G (without_blanks line)
 past_blanks F G end step [] = end
 past_blanks F G end step (b ∷ line) =
@@ -50,12 +52,14 @@ is_newline b = eqb b 10
 pub lines_of-last : (text : List ℕ) → position is_newline text ≡ None → lines_of text ≡ text ∷ []
 lines_of-last text e = slice_split_none is_newline text (λ k d lt. position-none is_newline text k d e lt)
 
-pub lines_of-first : (text : List ℕ) (at : ℕ) → position is_newline text ≡ Some at → (lines_of text ≡ take at text ∷ lines_of (drop (at + 1) text)) × (at < length text)
+pub lines_of-first : (text : List ℕ) (at : ℕ) → position is_newline text ≡ Some at
+    → (lines_of text ≡ take at text ∷ lines_of (drop (at + 1) text)) × (at < length text)
 lines_of-first text at e =
     let n = position_or_len is_newline text in
     let found = cond_some (ltb n (length text)) n at e in
     let short : n < length text = ltb-true n (length text) found.0 in
-    subst (λ (k : ℕ). (lines_of text ≡ take k text ∷ lines_of (drop (k + 1) text)) × (k < length text)) found.1 (slice_split_first is_newline text 0 short, short)
+    subst (λ (k : ℕ). (lines_of text ≡ take k text ∷ lines_of (drop (k + 1) text)) × (k < length text)) found.1
+    (slice_split_first is_newline text 0 short, short)
 
 -- what is seen past blanks, by cases on the line r without them
 pub skipped_nothing : (line r : List ℕ) → r ≡ without_blanks line → length r < 1 → true ≡ is_skipped line
@@ -70,7 +74,8 @@ pub front_nothing : (line r : List ℕ) → r ≡ without_blanks line → length
 front_nothing line [] e h = front_of-without_blanks line ∙ ap front_here (sym e)
 front_nothing line (b ∷ r) e h = absurd (omega arith)
 
-pub front_byte : (line r : List ℕ) → r ≡ without_blanks line → 1 ≤ length r → front_of line ≡ front_at (get_or r 0 0) (take (length r - 1) (drop 1 r))
+pub front_byte : (line r : List ℕ) → r ≡ without_blanks line → 1 ≤ length r
+    → front_of line ≡ front_at (get_or r 0 0) (take (length r - 1) (drop 1 r))
 front_byte line [] e h = absurd (omega arith)
 front_byte line (b ∷ r) e h =
     let whole : take (suc (length r) - 1) r ≡ r = take_all _ r (omega arith) in

@@ -20,7 +20,8 @@ pub record LineStands (line rest : List ℕ) (state : State) : Type 0 where
   pub leads : Leads ReadsTokens line (name keyword ∷ read) rest
   pub reached : steps first read ≡ Some state
 
-pub line_begins : (line rest keyword : List ℕ) (first : State) → front_of line ≡ token_first (name keyword) rest → begin keyword ≡ Some first → LineStands line rest first
+pub line_begins : (line rest keyword : List ℕ) (first : State) → front_of line ≡ token_first (name keyword) rest
+    → begin keyword ≡ Some first → LineStands line rest first
 line_begins line rest keyword first front b = record {
   keyword = keyword;
   first = first;
@@ -30,7 +31,8 @@ line_begins line rest keyword first front b = record {
   reached = refl;
 }
 
-pub line_goes : (line rest after : List ℕ) (state next : State) (t : Token) → LineStands line rest state → front_of rest ≡ token_first t after → step state t ≡ Some next → LineStands line after next
+pub line_goes : (line rest after : List ℕ) (state next : State) (t : Token) → LineStands line rest state
+    → front_of rest ≡ token_first t after → step state t ≡ Some next → LineStands line after next
 line_goes line rest after state next t h front e = record {
   keyword = h.keyword;
   first = h.first;
@@ -40,8 +42,10 @@ line_goes line rest after state next t h front e = record {
   reached = steps-push h.first state h.read t h.reached ∙ e;
 }
 
-parsed : (line rest : List ℕ) (state : State) (h : LineStands line rest state) (us : List Token) → parse_item (name h.keyword ∷ (h.read ++ us)) ≡ run state us
-parsed line rest state h us = ap (λ (o : Option State). option_and_then (λ s. run s (h.read ++ us)) o) h.begun ∙ run_on h.first state h.read us h.reached
+parsed : (line rest : List ℕ) (state : State) (h : LineStands line rest state) (us : List Token)
+    → parse_item (name h.keyword ∷ (h.read ++ us)) ≡ run state us
+parsed line rest state h us =
+    ap (λ (o : Option State). option_and_then (λ s. run s (h.read ++ us)) o) h.begun ∙ run_on h.first state h.read us h.reached
 
 -- how the rest runs
 pub record RestRuns (rest : List ℕ) (state : State) (tree : ItemTree) : Type 0 where
@@ -49,12 +53,18 @@ pub record RestRuns (rest : List ℕ) (state : State) (tree : ItemTree) : Type 0
   pub spelled : ReadsTokens rest tokens
   pub runs : run state tokens ≡ Some tree
 
-pub line_tree : (line rest : List ℕ) (state : State) (tree : ItemTree) → LineStands line rest state → ReadsTokens line (item_tokens tree) → RestRuns rest state tree
+pub line_tree : (line rest : List ℕ) (state : State) (tree : ItemTree) → LineStands line rest state → ReadsTokens line (item_tokens tree)
+    → RestRuns rest state tree
 line_tree line rest state tree h d =
     let left = h.leads.to (item_tokens tree) d in
-    record { tokens = left.0; spelled = left.2; runs = sym (parsed line rest state h left.0) ∙ sym (ap parse_item left.1) ∙ parse_item-tokens tree }
+    record {
+      tokens = left.0;
+      spelled = left.2;
+      runs = sym (parsed line rest state h left.0) ∙ sym (ap parse_item left.1) ∙ parse_item-tokens tree;
+    }
 
-pub line_formed : (line rest : List ℕ) (state : State) (tree : ItemTree) → LineStands line rest state → RestRuns rest state tree → ReadsTokens line (item_tokens tree)
+pub line_formed : (line rest : List ℕ) (state : State) (tree : ItemTree) → LineStands line rest state → RestRuns rest state tree
+    → ReadsTokens line (item_tokens tree)
 line_formed line rest state tree h r =
     let ts = name h.keyword ∷ (h.read ++ r.tokens) in
     let is : parse_item ts ≡ Some tree = parsed line rest state h r.tokens ∙ r.runs in

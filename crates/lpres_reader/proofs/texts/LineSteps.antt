@@ -18,20 +18,26 @@ same_tokens line (Some ts) None h k = absurd (k ts h)
 same_tokens line (Some ts) (Some us) h k = ap (λ (l : List Token). Some l) (tokens_unique ts us line h k)
 
 pub tokens_of-line_end : (line : List ℕ) → front_of line ≡ line_end → tokens_of line ≡ Some []
-tokens_of-line_end line e = same_tokens line (tokens_of line) (Some []) (tokens_of-found line) (tells line [] (subst (λ (f : Front). Follows f []) (sym e) refl))
+tokens_of-line_end line e =
+    same_tokens line (tokens_of line) (Some []) (tokens_of-found line) (tells line [] (subst (λ (f : Front). Follows f []) (sym e) refl))
 
 pub tokens_of-no_token : (line : List ℕ) → front_of line ≡ no_token → tokens_of line ≡ None
-tokens_of-no_token line e = same_tokens line (tokens_of line) None (tokens_of-found line) (λ ts d. subst (λ (f : Front). Follows f ts) e (follows d))
+tokens_of-no_token line e =
+    same_tokens line (tokens_of line) None (tokens_of-found line) (λ ts d. subst (λ (f : Front). Follows f ts) e (follows d))
 
-pub tokens_of-token_first : (line : List ℕ) (t : Token) (rest : List ℕ) → front_of line ≡ token_first t rest → tokens_of line ≡ option_map (λ ts. t ∷ ts) (tokens_of rest)
-tokens_of-token_first line t rest e = same_tokens line (tokens_of line) (option_map (λ ts. t ∷ ts) (tokens_of rest)) (tokens_of-found line) (token_found line t rest (tokens_of rest) e (tokens_of-found rest))
+pub tokens_of-token_first : (line : List ℕ) (t : Token) (rest : List ℕ) → front_of line ≡ token_first t rest
+    → tokens_of line ≡ option_map (λ ts. t ∷ ts) (tokens_of rest)
+tokens_of-token_first line t rest e =
+    same_tokens line (tokens_of line) (option_map (λ ts. t ∷ ts) (tokens_of rest)) (tokens_of-found line)
+    (token_found line t rest (tokens_of rest) e (tokens_of-found rest))
 
 -- lines behind a state
 no_state : (o : Option State) → None ≡ option_and_then (λ next. let nothing : Option ItemTree = None in nothing) o
 no_state None = refl
 no_state (Some next) = refl
 
-state_next : (state : State) (t : Token) (o : Option (List Token)) → option_and_then (run state) (option_map (λ ts. t ∷ ts) o) ≡ option_and_then (λ next. option_and_then (run next) o) (step state t)
+state_next : (state : State) (t : Token) (o : Option (List Token))
+    → option_and_then (run state) (option_map (λ ts. t ∷ ts) o) ≡ option_and_then (λ next. option_and_then (run next) o) (step state t)
 state_next state t None = no_state (step state t)
 state_next state t (Some ts) = refl
 
@@ -41,5 +47,7 @@ rest_of_line-line_end state line e = ap (option_and_then (run state)) (tokens_of
 pub rest_of_line-no_token : (state : State) (line : List ℕ) → front_of line ≡ no_token → rest_of_line state line ≡ None
 rest_of_line-no_token state line e = ap (option_and_then (run state)) (tokens_of-no_token line e)
 
-pub rest_of_line-token_first : (state : State) (line : List ℕ) (t : Token) (rest : List ℕ) → front_of line ≡ token_first t rest → rest_of_line state line ≡ option_and_then (λ next. rest_of_line next rest) (step state t)
-rest_of_line-token_first state line t rest e = ap (option_and_then (run state)) (tokens_of-token_first line t rest e) ∙ state_next state t (tokens_of rest)
+pub rest_of_line-token_first : (state : State) (line : List ℕ) (t : Token) (rest : List ℕ) → front_of line ≡ token_first t rest
+    → rest_of_line state line ≡ option_and_then (λ next. rest_of_line next rest) (step state t)
+rest_of_line-token_first state line t rest e =
+    ap (option_and_then (run state)) (tokens_of-token_first line t rest e) ∙ state_next state t (tokens_of rest)

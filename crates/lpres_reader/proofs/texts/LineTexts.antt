@@ -3,7 +3,8 @@ use Rattle.std.proofs.Common.{◌≡◌, ℕ, List, [], ◌∷◌, ◌++◌, Opt
 use Rattle.std.specs.Borrow.{Bor}
 use Rattle.lpres_reader.specs.GeneratorNames.{line_names, names_on, named_first, texts_of}
 
-texts_of-push : (texts : List (Bor (List ℕ))) (t : Bor (List ℕ)) (names : List (List ℕ)) → texts_of (texts ++ t ∷ []) ++ names ≡ texts_of texts ++ t.now ∷ names
+texts_of-push : (texts : List (Bor (List ℕ))) (t : Bor (List ℕ)) (names : List (List ℕ))
+    → texts_of (texts ++ t ∷ []) ++ names ≡ texts_of texts ++ t.now ∷ names
 texts_of-push [] t names = refl
 texts_of-push (s ∷ texts) t names = ap (λ (l : List (List ℕ)). s.now ∷ l) (texts_of-push texts t names)
 
@@ -22,8 +23,10 @@ next_text line rest after t texts more e here so_far =
 pub first_text : (line after : List ℕ) (t : Bor (List ℕ)) (more : List (Bor (List ℕ))) → more ≡ t ∷ []
     → line_names line ≡ named_first t.now (names_on after) → line_names line ≡ option_map (λ names. texts_of more ++ names) (names_on after)
 first_text line after t more e first =
-    first ∙ mapped_start t (names_on after) ∙ ap (λ (l : List (Bor (List ℕ))). option_map (λ names. texts_of l ++ names) (names_on after)) (sym e)
+    first ∙ mapped_start t (names_on after)
+    ∙ ap (λ (l : List (Bor (List ℕ))). option_map (λ names. texts_of l ++ names) (names_on after)) (sym e)
   where
-    mapped_start : (t : Bor (List ℕ)) (o : Option (List (List ℕ))) → named_first t.now o ≡ option_map (λ names. texts_of (t ∷ []) ++ names) o
+    mapped_start : (t : Bor (List ℕ)) (o : Option (List (List ℕ)))
+        → named_first t.now o ≡ option_map (λ names. texts_of (t ∷ []) ++ names) o
     mapped_start t None = refl
     mapped_start t (Some names) = refl

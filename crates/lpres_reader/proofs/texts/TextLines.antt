@@ -1,6 +1,7 @@
 -- Lines of a text, joined to a text of their own, are its lines. A line that begins with `generators` is not skipped,
 -- and a text has such a line or has none.
-use Rattle.std.proofs.Common.{◌≡◌, ℕ, Bool, true, false, eqb, not, List, [], ◌∷◌, ◌++◌, codes, filter, All, refl, sym, ap, subst, ◌∙◌, ◌⊎◌, inl, inr, ◌||◌, Decides}
+use Rattle.std.proofs.Common.{◌≡◌, ℕ, Bool, true, false, eqb, not, List, [], ◌∷◌, ◌++◌, codes, filter, All, refl, sym, ap, subst, ◌∙◌, ◌⊎◌}
+use Rattle.std.proofs.Common.{inl, inr, ◌||◌, Decides}
 use Rattle.std.specs.List.{AllByRecursion, onto_first, list_any}
 use Rattle.std.proofs.lemmas.Bool.Decides.{not_from_Decides}
 use Rattle.std.proofs.lemmas.Bool.{cond_both, cond-true, cond-false, cases_Bool, eqb-true, true≢false}
@@ -22,7 +23,8 @@ unskipped lines = filter (λ line. not (is_skipped line)) lines
 abbrev IsOneLine : List ℕ → Type 0
 IsOneLine line = All (λ b. eqb b 10 ≡ false) line
 
-one_line_more : (b : ℕ) (lines : List (List ℕ)) → eqb b 10 ≡ false → AllByRecursion IsOneLine lines → AllByRecursion IsOneLine (onto_first b lines)
+one_line_more : (b : ℕ) (lines : List (List ℕ)) → eqb b 10 ≡ false → AllByRecursion IsOneLine lines
+    → AllByRecursion IsOneLine (onto_first b lines)
 one_line_more b [] e h = (All-cons (λ c. eqb c 10 ≡ false) b [] e (All-nil (λ c. eqb c 10 ≡ false)), tt)
 one_line_more b (line ∷ lines) e h = (All-cons (λ c. eqb c 10 ≡ false) b line e h.0, h.1)
 
@@ -37,14 +39,19 @@ front_lines : (before after : List (List ℕ)) → AllByRecursion IsOneLine (bef
 front_lines [] after h = tt
 front_lines (line ∷ before) after h = (h.0, front_lines before after h.1)
 
-lines_joined : (line : List ℕ) (lines : List (List ℕ)) → AllByRecursion IsOneLine (line ∷ lines) → lines_of (text_of (line ∷ lines)) ≡ line ∷ lines
+lines_joined : (line : List ℕ) (lines : List (List ℕ)) → AllByRecursion IsOneLine (line ∷ lines)
+    → lines_of (text_of (line ∷ lines)) ≡ line ∷ lines
 lines_joined line [] h = slice_split_none (λ b. eqb b 10) line h.0
-lines_joined line (next ∷ lines) h = slice_split_at (λ b. eqb b 10) line 10 (text_of (next ∷ lines)) h.0 refl ∙ ap (λ (l : List (List ℕ)). line ∷ l) (lines_joined next lines h.1)
+lines_joined line (next ∷ lines) h =
+    slice_split_at (λ b. eqb b 10) line 10 (text_of (next ∷ lines)) h.0 refl
+    ∙ ap (λ (l : List (List ℕ)). line ∷ l) (lines_joined next lines h.1)
 
 -- lines at the front of a text, as a text
-pub content_of-front : (text : List ℕ) (before after : List (List ℕ)) → lines_of text ≡ before ++ after → content_of (text_of before) ≡ unskipped before
+pub content_of-front : (text : List ℕ) (before after : List (List ℕ)) → lines_of text ≡ before ++ after
+    → content_of (text_of before) ≡ unskipped before
 content_of-front text [] after e = refl
-content_of-front text (line ∷ before) after e = ap unskipped (lines_joined line before (front_lines (line ∷ before) after (subst (AllByRecursion IsOneLine) e (lines_are_lines text))))
+content_of-front text (line ∷ before) after e =
+    ap unskipped (lines_joined line before (front_lines (line ∷ before) after (subst (AllByRecursion IsOneLine) e (lines_are_lines text))))
 
 -- lines that begin with `generators`
 comment_front : (b : ℕ) (rest : List ℕ) → eqb b 35 ≡ true → front_at b rest ≡ no_token
@@ -58,9 +65,14 @@ front_kept : (line : List ℕ) → HasFront line → is_skipped line ≡ false
 front_kept [] g = absurd (let e : line_end ≡ token_first (name (codes "generators")) g.0 = g.1 in cc)
 front_kept (b ∷ line) g = by (λ h. front_kept line h) (cases_Bool (is_blank b)) (cases_Bool (eqb b 35))
   where
-    by : (HasFront line → is_skipped line ≡ false) → (is_blank b ≡ true) ⊎ (is_blank b ≡ false) → (eqb b 35 ≡ true) ⊎ (eqb b 35 ≡ false) → is_skipped (b ∷ line) ≡ false
-    by behind (inl blank) hash = cond-true (is_blank b) (is_skipped line) (eqb b 35) blank ∙ behind (g.0, sym (cond-true (is_blank b) (front_of line) (front_at b line) blank) ∙ g.1)
-    by behind (inr full) (inl hash) = absurd (let e : no_token ≡ token_first (name (codes "generators")) g.0 = sym (comment_front b line hash) ∙ sym (cond-false (is_blank b) (front_of line) (front_at b line) full) ∙ g.1 in cc)
+    by : (HasFront line → is_skipped line ≡ false) → (is_blank b ≡ true) ⊎ (is_blank b ≡ false) → (eqb b 35 ≡ true) ⊎ (eqb b 35 ≡ false)
+        → is_skipped (b ∷ line) ≡ false
+    by behind (inl blank) hash =
+        cond-true (is_blank b) (is_skipped line) (eqb b 35) blank
+        ∙ behind (g.0, sym (cond-true (is_blank b) (front_of line) (front_at b line) blank) ∙ g.1)
+    by behind (inr full) (inl hash) =
+        absurd (let e : no_token ≡ token_first (name (codes "generators")) g.0 =
+        sym (comment_front b line hash) ∙ sym (cond-false (is_blank b) (front_of line) (front_at b line) full) ∙ g.1 in cc)
     by behind (inr full) (inr other) = cond-false (is_blank b) (is_skipped line) (eqb b 35) full ∙ other
 
 front_begins : (line : List ℕ) (ts : List Token) → ReadsTokens line (name (codes "generators") ∷ ts) → HasFront line
@@ -69,17 +81,34 @@ front_begins line ts d = by (front_of line) refl (follows d)
     by : (f : Front) → front_of line ≡ f → Follows f (name (codes "generators") ∷ ts) → HasFront line
     by line_end e h = absurd (cc h)
     by no_token e h = absurd h
-    by (token_first t rest) e h = let is : t ≡ name (codes "generators") = let both : name (codes "generators") ∷ ts ≡ t ∷ h.0 = h.1 in cc in
+    by (token_first t rest) e h = let is : t ≡ name (codes "generators") = let both : name (codes "generators") ∷ ts ≡ t ∷ h.0 = h.1 in
+        cc in
         (rest, e ∙ ap (λ (s : Token). token_first s rest) is)
 
 front_Decides : (line : List ℕ) → Decides (is_generators (front_of line)) (HasFront line)
 front_Decides line = by (front_of line) refl
   where
     by : (f : Front) → front_of line ≡ f → Decides (is_generators f) (HasFront line)
-    by line_end e = (λ t. absurd (true≢false (sym t)), λ g. let same : line_end ≡ token_first (name (codes "generators")) g.0 = sym e ∙ g.1 in absurd cc)
-    by no_token e = (λ t. absurd (true≢false (sym t)), λ g. let same : no_token ≡ token_first (name (codes "generators")) g.0 = sym e ∙ g.1 in absurd cc)
-    by (token_first (number digits) rest) e = (λ t. absurd (true≢false (sym t)), λ g. let same : token_first (number digits) rest ≡ token_first (name (codes "generators")) g.0 = sym e ∙ g.1 in absurd cc)
-    by (token_first (symbol s) rest) e = (λ t. absurd (true≢false (sym t)), λ g. let same : token_first (symbol s) rest ≡ token_first (name (codes "generators")) g.0 = sym e ∙ g.1 in absurd cc)
+    by line_end e = (
+      λ t. absurd (true≢false (sym t)),
+      λ g. let same : line_end ≡ token_first (name (codes "generators")) g.0 = sym e ∙ g.1 in
+          absurd cc,
+    )
+    by no_token e = (
+      λ t. absurd (true≢false (sym t)),
+      λ g. let same : no_token ≡ token_first (name (codes "generators")) g.0 = sym e ∙ g.1 in
+          absurd cc,
+    )
+    by (token_first (number digits) rest) e = (
+      λ t. absurd (true≢false (sym t)),
+      λ g. let same : token_first (number digits) rest ≡ token_first (name (codes "generators")) g.0 =
+          sym e ∙ g.1 in absurd cc,
+    )
+    by (token_first (symbol s) rest) e = (
+      λ t. absurd (true≢false (sym t)),
+      λ g. let same : token_first (symbol s) rest ≡ token_first (name (codes "generators")) g.0 =
+          sym e ∙ g.1 in absurd cc,
+    )
     by (token_first (name n) rest) e = (
       λ t. (rest, e ∙ ap (λ (m : List ℕ). token_first (name m) rest) ((bytes_eq-Decides n (codes "generators")).0 t)),
       λ g. let same : token_first (name n) rest ≡ token_first (name (codes "generators")) g.0 = sym e ∙ g.1 in
@@ -108,11 +137,20 @@ pub record HasLine (lines : List (List ℕ)) : Type 0 where
   pub begins : IsGeneratorsLine line
 
 pub has_later : (line : List ℕ) (lines : List (List ℕ)) → HasLine lines → HasLine (line ∷ lines)
-has_later line lines h = record { before = line ∷ h.before; line = h.line; after = h.after; place = ap (λ (l : List (List ℕ)). line ∷ l) h.place; begins = h.begins }
+has_later line lines h =
+    record {
+      before = line ∷ h.before;
+      line = h.line;
+      after = h.after;
+      place = ap (λ (l : List (List ℕ)). line ∷ l) h.place;
+      begins = h.begins;
+    }
 
-has_line_parts : (line : List ℕ) (lines before : List (List ℕ)) (other : List ℕ) (after : List (List ℕ)) → line ∷ lines ≡ before ++ other ∷ after → IsGeneratorsLine other → IsGeneratorsLine line ⊎ HasLine lines
+has_line_parts : (line : List ℕ) (lines before : List (List ℕ)) (other : List ℕ) (after : List (List ℕ))
+    → line ∷ lines ≡ before ++ other ∷ after → IsGeneratorsLine other → IsGeneratorsLine line ⊎ HasLine lines
 has_line_parts line lines [] other after e g = inl (let is : other ≡ line = cc in subst IsGeneratorsLine is g)
-has_line_parts line lines (b ∷ before) other after e g = inr (record { before = before; line = other; after = after; place = cc; begins = g })
+has_line_parts line lines (b ∷ before) other after e g =
+    inr (record { before = before; line = other; after = after; place = cc; begins = g })
 
 no_line : (before : List (List ℕ)) (line : List ℕ) (after : List (List ℕ)) → [] ≡ before ++ line ∷ after → ⊥
 no_line [] line after e = cc
@@ -122,6 +160,11 @@ pub has_line-Decides : (lines : List (List ℕ)) → Decides (list_any (λ line.
 has_line-Decides [] = (λ t. absurd (true≢false (sym t)), λ h. absurd (no_line h.before h.line h.after h.place))
 has_line-Decides (line ∷ lines) = by (is_generators (front_of line)) (is_generators-Decides line) (has_line-Decides lines)
   where
-    by : (b : Bool) → Decides b (IsGeneratorsLine line) → Decides (list_any (λ l. is_generators (front_of l)) lines) (HasLine lines) → Decides (b || list_any (λ l. is_generators (front_of l)) lines) (HasLine (line ∷ lines))
+    by : (b : Bool) → Decides b (IsGeneratorsLine line) → Decides (list_any (λ l. is_generators (front_of l)) lines) (HasLine lines)
+        → Decides (b || list_any (λ l. is_generators (front_of l)) lines) (HasLine (line ∷ lines))
     by true d rest = (λ t. record { before = []; line = line; after = lines; place = refl; begins = d.0 refl }, λ h. refl)
-    by false d rest = (λ t. has_later line lines (rest.0 t), λ h. elim (has_line_parts line lines h.before h.line h.after h.place h.begins) [ inl g ↦ absurd (not_from_Decides false d refl g) | inr later ↦ rest.1 later ])
+    by false d rest = (
+      λ t. has_later line lines (rest.0 t),
+      λ h. elim (has_line_parts line lines h.before h.line h.after h.place h.begins)
+          [ inl g ↦ absurd (not_from_Decides false d refl g) | inr later ↦ rest.1 later ],
+    )

@@ -1,5 +1,6 @@
 -- A text reads as a presentation exactly where its lines lead to it.
-use Rattle.std.proofs.Common.{◌≡◌, ℕ, Bool, true, false, not, cond, List, [], ◌∷◌, ◌++◌, Option, Some, None, refl, sym, ap, subst, ◌∙◌, ◌⊎◌, inl, inr, append_assoc}
+use Rattle.std.proofs.Common.{◌≡◌, ℕ, Bool, true, false, not, cond, List, [], ◌∷◌, ◌++◌, Option, Some, None, refl, sym, ap, subst, ◌∙◌, ◌⊎◌}
+use Rattle.std.proofs.Common.{inl, inr, append_assoc}
 use Rattle.std.proofs.lemmas.List.{append-nil}
 use Rattle.std.proofs.lemmas.Bool.{cases_Bool}
 use Rattle.pq_base.specs.LPresentation.{LPresentation, AreDistinct}
@@ -22,22 +23,40 @@ extended M [] = M
 extended M (item ∷ items) = extended (added M item) items
 
 abbrev with_items : LPresentation → List Item → LPresentation
-with_items M items = record { names = M.names; fixed = M.fixed ++ fixed_of items; iterated = M.iterated ++ iterated_of items; endos = M.endos ++ endos_of items }
+with_items M items =
+    record {
+      names = M.names;
+      fixed = M.fixed ++ fixed_of items;
+      iterated = M.iterated ++ iterated_of items;
+      endos = M.endos ++ endos_of items;
+    }
 
 with_items-cons : (M : LPresentation) (item : Item) (items : List Item) → with_items (added M item) items ≡ with_items M (item ∷ items)
-with_items-cons M (fixed ws) items = ap (λ (x : List _). let L : LPresentation = record { names = M.names; fixed = x; iterated = M.iterated ++ iterated_of items; endos = M.endos ++ endos_of items } in L) (append_assoc M.fixed ws (fixed_of items))
-with_items-cons M (iterated ws) items = ap (λ (x : List _). let L : LPresentation = record { names = M.names; fixed = M.fixed ++ fixed_of items; iterated = x; endos = M.endos ++ endos_of items } in L) (append_assoc M.iterated ws (iterated_of items))
-with_items-cons M (endo f) items = ap (λ (x : List _). let L : LPresentation = record { names = M.names; fixed = M.fixed ++ fixed_of items; iterated = M.iterated ++ iterated_of items; endos = x } in L) (append_assoc M.endos (f ∷ []) (endos_of items))
+with_items-cons M (fixed ws) items =
+    ap (λ (x : List _). let L : LPresentation =
+    record { names = M.names; fixed = x; iterated = M.iterated ++ iterated_of items; endos = M.endos ++ endos_of items } in L)
+    (append_assoc M.fixed ws (fixed_of items))
+with_items-cons M (iterated ws) items =
+    ap (λ (x : List _). let L : LPresentation =
+    record { names = M.names; fixed = M.fixed ++ fixed_of items; iterated = x; endos = M.endos ++ endos_of items } in L)
+    (append_assoc M.iterated ws (iterated_of items))
+with_items-cons M (endo f) items =
+    ap (λ (x : List _). let L : LPresentation =
+    record { names = M.names; fixed = M.fixed ++ fixed_of items; iterated = M.iterated ++ iterated_of items; endos = x } in L)
+    (append_assoc M.endos (f ∷ []) (endos_of items))
 
 same_parts : (names : List (List ℕ)) (f g i j : List (List _)) (d e : List (List (List _))) → f ≡ g → i ≡ j → d ≡ e
-    → (let L : LPresentation = record { names = names; fixed = f; iterated = i; endos = d } in L) ≡ (let M : LPresentation = record { names = names; fixed = g; iterated = j; endos = e } in M)
+    → (let L : LPresentation = record { names = names; fixed = f; iterated = i; endos = d } in L)
+    ≡ (let M : LPresentation = record { names = names; fixed = g; iterated = j; endos = e } in M)
 same_parts names f g i j d e p q r =
     ap (λ (x : List (List _)). let L : LPresentation = record { names = names; fixed = x; iterated = i; endos = d } in L) p
     ∙ ap (λ (x : List (List _)). let L : LPresentation = record { names = names; fixed = g; iterated = x; endos = d } in L) q
     ∙ ap (λ (x : List (List (List _))). let L : LPresentation = record { names = names; fixed = g; iterated = j; endos = x } in L) r
 
 extended-is : (items : List Item) (M : LPresentation) → extended M items ≡ with_items M items
-extended-is [] M = same_parts M.names M.fixed (M.fixed ++ []) M.iterated (M.iterated ++ []) M.endos (M.endos ++ []) (sym (append-nil M.fixed)) (sym (append-nil M.iterated)) (sym (append-nil M.endos))
+extended-is [] M =
+    same_parts M.names M.fixed (M.fixed ++ []) M.iterated (M.iterated ++ []) M.endos (M.endos ++ []) (sym (append-nil M.fixed))
+    (sym (append-nil M.iterated)) (sym (append-nil M.endos))
 extended-is (item ∷ items) M = extended-is items (added M item) ∙ with_items-cons M item items
 
 extended_names : (items : List Item) (M : LPresentation) → (extended M items).names ≡ M.names
@@ -48,23 +67,31 @@ within_extended [] M h = h
 within_extended (item ∷ items) M h = within_before M item (within_extended items (added M item) h)
 
 -- from items to lines
-items_chain : (lines : List (List ℕ)) (M : LPresentation) (items : List Item) → ReadsItems M.names (unskipped lines) items → IsWithinLimits (extended M items) → Chain (Some M) lines (Some (extended M items))
+items_chain : (lines : List (List ℕ)) (M : LPresentation) (items : List Item) → ReadsItems M.names (unskipped lines) items
+    → IsWithinLimits (extended M items) → Chain (Some M) lines (Some (extended M items))
 items_chain [] M [] each within = done
 items_chain [] M (item ∷ items) each within = absurd each
 items_chain (line ∷ lines) M items each within = by (λ N rest. items_chain lines N rest) (cases_Bool (is_skipped line))
   where
-    read : (items : List Item) → ReadsItems M.names (line ∷ unskipped lines) items → IsWithinLimits (extended M items) → is_skipped line ≡ false
-        → ((N : LPresentation) (rest : List Item) → ReadsItems N.names (unskipped lines) rest → IsWithinLimits (extended N rest) → Chain (Some N) lines (Some (extended N rest)))
+    read : (items : List Item) → ReadsItems M.names (line ∷ unskipped lines) items → IsWithinLimits (extended M items)
+        → is_skipped line ≡ false
+        → ((N : LPresentation) (rest : List Item) → ReadsItems N.names (unskipped lines) rest → IsWithinLimits (extended N rest)
+        → Chain (Some N) lines (Some (extended N rest)))
         → Chain (Some M) (line ∷ lines) (Some (extended M items))
     read [] e w keep go = absurd e
     read (item ∷ rest) e w keep go =
         reads line (added M item) keep (record { item = item; reads = e.0; is = refl; within = within_extended rest (added M item) w })
         (go (added M item) rest (subst (λ (ns : List (List ℕ)). ReadsItems ns (unskipped lines) rest) (sym (added_names M item)) e.1) w)
 
-    by : ((N : LPresentation) (rest : List Item) → ReadsItems N.names (unskipped lines) rest → IsWithinLimits (extended N rest) → Chain (Some N) lines (Some (extended N rest)))
+    by : ((N : LPresentation) (rest : List Item) → ReadsItems N.names (unskipped lines) rest → IsWithinLimits (extended N rest)
+        → Chain (Some N) lines (Some (extended N rest)))
         → (is_skipped line ≡ true) ⊎ (is_skipped line ≡ false) → Chain (Some M) (line ∷ lines) (Some (extended M items))
-    by go (inl skip) = skips line skip (go M items (subst (λ (b : Bool). ReadsItems M.names (cond (not b) (line ∷ unskipped lines) (unskipped lines)) items) skip each) within)
-    by go (inr keep) = read items (subst (λ (b : Bool). ReadsItems M.names (cond (not b) (line ∷ unskipped lines) (unskipped lines)) items) keep each) within keep go
+    by go (inl skip) =
+        skips line skip (go M items
+        (subst (λ (b : Bool). ReadsItems M.names (cond (not b) (line ∷ unskipped lines) (unskipped lines)) items) skip each) within)
+    by go (inr keep) =
+        read items (subst (λ (b : Bool). ReadsItems M.names (cond (not b) (line ∷ unskipped lines) (unskipped lines)) items) keep each)
+        within keep go
 
 pub unskipped-skip : (line : List ℕ) (lines : List (List ℕ)) → is_skipped line ≡ true → unskipped (line ∷ lines) ≡ unskipped lines
 unskipped-skip line lines e = ap (λ (b : Bool). cond (not b) (line ∷ unskipped lines) (unskipped lines)) e
@@ -74,7 +101,9 @@ unskipped-keep line lines e = ap (λ (b : Bool). cond (not b) (line ∷ unskippe
 
 -- and back
 abbrev ItemsTo : LPresentation → List (List ℕ) → Option LPresentation → Type 0
-ItemsTo M lines n = (items : List Item) × (n ≡ Some (extended M items)) × ReadsItems M.names (unskipped lines) items × (IsWithinLimits M → IsWithinLimits (extended M items))
+ItemsTo M lines n =
+    (items : List Item) × (n ≡ Some (extended M items)) × ReadsItems M.names (unskipped lines) items
+    × (IsWithinLimits M → IsWithinLimits (extended M items))
 
 chain_items : {m n : Option LPresentation} {lines : List (List ℕ)} → Chain m lines n → (M : LPresentation) → m ≡ Some M → ItemsTo M lines n
 chain_items done M e = ([], e, tt, λ w. w)
@@ -114,7 +143,8 @@ lines_from_reads text L r = record {
   distinct = r.distinct;
   items = r.items;
   each = r.each;
-  is = same_parts L.names L.fixed (fixed_of r.items) L.iterated (iterated_of r.items) L.endos (endos_of r.items) r.fixed r.iterated r.endos ∙ sym (extended-is r.items (bare L.names));
+  is = same_parts L.names L.fixed (fixed_of r.items) L.iterated (iterated_of r.items) L.endos (endos_of r.items) r.fixed r.iterated r.endos
+      ∙ sym (extended-is r.items (bare L.names));
   limits = r.limits;
 }
 
@@ -139,21 +169,31 @@ pub chain_from_lines : (lines : List (List ℕ)) (L : LPresentation) → ReadsLi
 chain_from_lines [] L r = absurd (let e : [] ≡ r.first ∷ r.later = r.lines in cc)
 chain_from_lines (line ∷ lines) L r = by (λ s. chain_from_lines lines L s) (cases_Bool (is_skipped line))
   where
-    by : (ReadsLines (unskipped lines) L → Chain None lines (Some L)) → (is_skipped line ≡ true) ⊎ (is_skipped line ≡ false) → Chain None (line ∷ lines) (Some L)
+    by : (ReadsLines (unskipped lines) L → Chain None lines (Some L)) → (is_skipped line ≡ true) ⊎ (is_skipped line ≡ false)
+        → Chain None (line ∷ lines) (Some L)
     by go (inl skip) = skips line skip (go (subst (λ (l : List (List ℕ)). ReadsLines l L) (unskipped-skip line lines skip) r))
     by go (inr keep) =
         let content : line ∷ unskipped lines ≡ r.first ∷ r.later = sym (unskipped-keep line lines keep) ∙ r.lines in
         let is : r.first ≡ line = cc in
         let rest : r.later ≡ unskipped lines = cc in
         let within : IsWithinLimits (extended (bare L.names) r.items) = subst IsWithinLimits r.is r.limits in
-        let made : MakesNames line (bare L.names) = record { reads = subst (ReadsLine (IsGenerators L.names)) is r.generators; distinct = r.distinct; is = refl; within = within_extended r.items (bare L.names) within } in
+        let made : MakesNames line (bare L.names) =
+        record {
+          reads = subst (ReadsLine (IsGenerators L.names)) is r.generators;
+          distinct = r.distinct;
+          is = refl;
+          within = within_extended r.items (bare L.names) within;
+        } in
         let each : ReadsItems L.names (unskipped lines) r.items = subst (λ (l : List (List ℕ)). ReadsItems L.names l r.items) rest r.each in
         reads line (bare L.names) keep made
-        (subst (λ (N : LPresentation). Chain (Some (bare L.names)) lines (Some N)) (sym r.is) (items_chain lines (bare L.names) r.items each within))
+        (subst (λ (N : LPresentation). Chain (Some (bare L.names)) lines (Some N)) (sym r.is)
+        (items_chain lines (bare L.names) r.items each within))
 
-pub lines_from_chain : {m n : Option LPresentation} {lines : List (List ℕ)} → Chain m lines n → (L : LPresentation) → m ≡ None → n ≡ Some L → ReadsLines (unskipped lines) L
+pub lines_from_chain : {m n : Option LPresentation} {lines : List (List ℕ)} → Chain m lines n → (L : LPresentation) → m ≡ None → n ≡ Some L
+    → ReadsLines (unskipped lines) L
 lines_from_chain done L e f = absurd (let same : None ≡ Some L = sym e ∙ f in cc)
-lines_from_chain (skips {lines = lines} line skip c) L e f = subst (λ (l : List (List ℕ)). ReadsLines l L) (sym (unskipped-skip line lines skip)) (lines_from_chain c L e f)
+lines_from_chain (skips {lines = lines} line skip c) L e f =
+    subst (λ (l : List (List ℕ)). ReadsLines l L) (sym (unskipped-skip line lines skip)) (lines_from_chain c L e f)
 lines_from_chain (reads {n = n} {lines = lines} line M keep made c) L e f =
     let here : MakesNames line M = subst (λ (o : Option LPresentation). Makes o line M) e made in
     let r = chain_items c M refl in
@@ -176,7 +216,8 @@ pub chain_from_nothing : (lines : List (List ℕ)) → unskipped lines ≡ [] �
 chain_from_nothing [] e = done
 chain_from_nothing (line ∷ lines) e = by (λ f. chain_from_nothing lines f) (cases_Bool (is_skipped line))
   where
-    by : (unskipped lines ≡ [] → Chain None lines None) → (is_skipped line ≡ true) ⊎ (is_skipped line ≡ false) → Chain None (line ∷ lines) None
+    by : (unskipped lines ≡ [] → Chain None lines None) → (is_skipped line ≡ true) ⊎ (is_skipped line ≡ false)
+        → Chain None (line ∷ lines) None
     by go (inl skip) = skips line skip (go (sym (unskipped-skip line lines skip) ∙ e))
     by go (inr keep) = absurd (let same : line ∷ unskipped lines ≡ [] = sym (unskipped-keep line lines keep) ∙ e in cc)
 
@@ -191,10 +232,17 @@ nothing_from_chain (skips {lines = lines} line skip c) e f = unskipped-skip line
 nothing_from_chain (reads line L keep made c) e f = absurd (still_some c L refl f)
 
 -- lines that lead to a presentation have one that begins with `generators`
-pub chain_has_line : {m n : Option LPresentation} {lines : List (List ℕ)} → Chain m lines n → (L : LPresentation) → m ≡ None → n ≡ Some L → HasLine lines
+pub chain_has_line : {m n : Option LPresentation} {lines : List (List ℕ)} → Chain m lines n → (L : LPresentation) → m ≡ None → n ≡ Some L
+    → HasLine lines
 chain_has_line done L e f = absurd (let same : None ≡ Some L = sym e ∙ f in cc)
 chain_has_line (skips {lines = lines} line skip c) L e f = has_later line lines (chain_has_line c L e f)
 chain_has_line (reads {lines = lines} line M keep made c) L e f =
     let here : MakesNames line M = subst (λ (o : Option LPresentation). Makes o line M) e made in
     let formed = here.reads.formed in
-    record { before = []; line = line; after = lines; place = refl; begins = generators_begin line formed.0 (subst (ReadsTokens line) formed.1 here.reads.spelled) }
+    record {
+      before = [];
+      line = line;
+      after = lines;
+      place = refl;
+      begins = generators_begin line formed.0 (subst (ReadsTokens line) formed.1 here.reads.spelled);
+    }

@@ -1,5 +1,6 @@
 -- A line has the form of an item exactly where its tokens go through, one after the other, to a whole form.
-use Rattle.std.proofs.Common.{◌≡◌, ℕ, true, false, List, [], ◌∷◌, Option, Some, None, is_some, option_map, option_and_then, refl, ap, ◌∙◌, sym, subst}
+use Rattle.std.proofs.Common.{◌≡◌, ℕ, true, false, List, [], ◌∷◌, Option, Some, None, is_some, option_map, option_and_then, refl, ap, ◌∙◌}
+use Rattle.std.proofs.Common.{sym, subst}
 use Rattle.lpres_reader.specs.Tokens.{Token, name, number, symbol}
 use Rattle.lpres_reader.specs.Trees.{ItemTree, relators, arrows, item_tokens}
 use Rattle.lpres_reader.specs.Parser.{State, step, run, line_end, begin, parse_item}
@@ -30,12 +31,14 @@ from_None : {A B : Type 0} (f : A → B) (o : Option A) → option_map f o ≡ N
 from_None f None e = refl
 from_None f (Some a) e = absurd (cc e)
 
-pub form_first : (line rest keyword : List ℕ) (f : Form) → front_of line ≡ token_first (name keyword) rest → first_form keyword ≡ Some f → InForm line rest f
+pub form_first : (line rest keyword : List ℕ) (f : Form) → front_of line ≡ token_first (name keyword) rest → first_form keyword ≡ Some f
+    → InForm line rest f
 form_first line rest keyword f front e =
     let b = from_Some form_of (begin keyword) f (sym (form_begins keyword) ∙ e) in
     record { state = b.0; is = b.2; stands = line_begins line rest keyword b.0 front b.1 }
 
-pub form_next : (line rest after : List ℕ) (f g : Form) (t : Token) → InForm line rest f → front_of rest ≡ token_first t after → form_step f t ≡ Some g → InForm line after g
+pub form_next : (line rest after : List ℕ) (f g : Form) (t : Token) → InForm line rest f → front_of rest ≡ token_first t after
+    → form_step f t ≡ Some g → InForm line after g
 form_next line rest after f g t h front e =
     let b = from_Some form_of (step h.state t) g (sym (form_goes h.state t) ∙ ap (λ (x : Form). form_step x t) (sym h.is) ∙ e) in
     record { state = b.0; is = b.2; stands = line_goes line rest after h.state b.0 t h.stands front b.1 }
@@ -44,10 +47,14 @@ whole_state : (o : Option ItemTree) → is_some o ≡ true → (i : ItemTree) ×
 whole_state None e = absurd (cc e)
 whole_state (Some i) e = (i, refl)
 
-pub form_whole : (line rest : List ℕ) (f : Form) → InForm line rest f → front_of rest ≡ front.line_end → is_whole_form f ≡ true → ItemForm line
+pub form_whole : (line rest : List ℕ) (f : Form) → InForm line rest f → front_of rest ≡ front.line_end → is_whole_form f ≡ true
+    → ItemForm line
 form_whole line rest f h end e =
     let w = whole_state (line_end h.state) (sym (form_ends h.state) ∙ ap is_whole_form (sym h.is) ∙ e) in
-    record { tree = w.0; spelled = line_formed line rest h.state w.0 h.stands (record { tokens = []; spelled = ends_here rest end; runs = w.1 }) }
+    record {
+      tree = w.0;
+      spelled = line_formed line rest h.state w.0 h.stands (record { tokens = []; spelled = ends_here rest end; runs = w.1 });
+    }
 
 -- no form
 pub no_form_at_token : (line rest : List ℕ) (f : Form) → InForm line rest f → front_of rest ≡ no_token → ItemForm line → ⊥
@@ -61,14 +68,16 @@ runs_none state t ts us i none same e =
     let g : None ≡ Some i = sym (ap (λ (o : Option State). option_and_then (λ s. run s us) o) none) ∙ f in
     cc
 
-pub no_form_behind : (line rest after : List ℕ) (f : Form) (t : Token) → InForm line rest f → front_of rest ≡ token_first t after → form_step f t ≡ None → ItemForm line → ⊥
+pub no_form_behind : (line rest after : List ℕ) (f : Form) (t : Token) → InForm line rest f → front_of rest ≡ token_first t after
+    → form_step f t ≡ None → ItemForm line → ⊥
 no_form_behind line rest after f t h front e i =
     let r = line_tree line rest h.state i.tree h.stands i.spelled in
     let none = from_None form_of (step h.state t) (sym (form_goes h.state t) ∙ ap (λ (x : Form). form_step x t) (sym h.is) ∙ e) in
     let left = subst (λ (x : Front). Follows x r.tokens) front (follows r.spelled) in
     runs_none h.state t r.tokens left.0 i.tree none left.1 r.runs
 
-pub no_form_here : (line rest : List ℕ) (f : Form) → InForm line rest f → front_of rest ≡ front.line_end → is_whole_form f ≡ false → ItemForm line → ⊥
+pub no_form_here : (line rest : List ℕ) (f : Form) → InForm line rest f → front_of rest ≡ front.line_end → is_whole_form f ≡ false
+    → ItemForm line → ⊥
 no_form_here line rest f h end e i =
     let r = line_tree line rest h.state i.tree h.stands i.spelled in
     let here : line_end h.state ≡ Some i.tree = sym (ap (run h.state) (end_only rest r.tokens end r.spelled)) ∙ r.runs in
@@ -81,7 +90,8 @@ parses_none k ts us t none same e =
     let g : None ≡ Some t = sym (ap (λ (o : Option State). option_and_then (λ s. run s us) o) none) ∙ f in
     cc
 
-pub no_form_first : (line rest keyword : List ℕ) → front_of line ≡ token_first (name keyword) rest → first_form keyword ≡ None → ItemForm line → ⊥
+pub no_form_first : (line rest keyword : List ℕ) → front_of line ≡ token_first (name keyword) rest → first_form keyword ≡ None
+    → ItemForm line → ⊥
 no_form_first line rest keyword front e i =
     let none = from_None form_of (begin keyword) (sym (form_begins keyword) ∙ e) in
     let left = subst (λ (x : Front). Follows x (item_tokens i.tree)) front (follows i.spelled) in

@@ -3,17 +3,21 @@ use Rattle.std.proofs.Common.{◌≡◌, ℕ, Bool, true, false, ◌&&◌, is_so
 use Rattle.std.proofs.lemmas.Bool.{cond_both}
 use Rattle.std.specs.Prelude.{codes, bytes_eq}
 use Rattle.lpres_reader.specs.declared.token.Symbol.{Symbol}
-use Rattle.lpres_reader.specs.declared.token.Symbol.TheVariants.{Arrow, Star, Caret, Minus, Equals, Comma, OpenRound, CloseRound, OpenSquare, CloseSquare}
+use Rattle.lpres_reader.specs.declared.token.Symbol.TheVariants.{Arrow, Star, Caret, Minus, Equals, Comma, OpenRound, CloseRound}
+use Rattle.lpres_reader.specs.declared.token.Symbol.TheVariants.{OpenSquare, CloseSquare}
 use Rattle.lpres_reader.specs.Tokens.{Token, name, number, symbol}
 use Rattle.lpres_reader.specs.Trees.{WordTree, UnitTree, one, fixed_sort, iterated_sort}
-use Rattle.lpres_reader.specs.Parser.{Place, as_factor, as_exponent, none, first, several, in_relators, in_arrows, Around, outside, in_round, in_square, State, at_name, at_arrow, at_factor, at_exponent, at_digits, behind, joined, behind_unit, unit_step, word_step, step, line_end, begin}
+use Rattle.lpres_reader.specs.Parser.{Place, as_factor, as_exponent, none, first, several, in_relators, in_arrows, Around, outside}
+use Rattle.lpres_reader.specs.Parser.{in_round, in_square, State, at_name, at_arrow, at_factor, at_exponent, at_digits, behind, joined}
+use Rattle.lpres_reader.specs.Parser.{behind_unit, unit_step, word_step, step, line_end, begin}
 use Rattle.lpres_reader.specs.declared.syntax.Form.{Form}
 use Rattle.lpres_reader.specs.declared.syntax.Stage.TheVariants as at
 use Rattle.lpres_reader.specs.declared.syntax.Outer.TheVariants.{Relators, Arrows}
 use Rattle.lpres_reader.specs.Forms.{form, unit_form, word_form, form_step, first_form, is_behind, nothing_open}
 use Rattle.lpres_reader.proofs.trees.ParsedForms.{form_of, outer_around, brackets_around}
 
-behind_unit-form : (a : Around) (p : Place) (u : UnitTree) → form_of (behind_unit a p u) ≡ form at.Behind (outer_around a) (brackets_around a)
+behind_unit-form : (a : Around) (p : Place) (u : UnitTree)
+    → form_of (behind_unit a p u) ≡ form at.Behind (outer_around a) (brackets_around a)
 behind_unit-form a (as_factor s) u = refl
 behind_unit-form a (as_exponent s f) u = refl
 
@@ -24,7 +28,8 @@ unit_goes a p (symbol OpenRound) = refl
 unit_goes a p (symbol OpenSquare) = refl
 unit_goes a p (symbol s) = refl
 
-word_goes : (a : Around) (w : WordTree) (s : Symbol) → word_form (outer_around a) (brackets_around a) s ≡ option_map form_of (word_step a w (symbol s))
+word_goes : (a : Around) (w : WordTree) (s : Symbol)
+    → word_form (outer_around a) (brackets_around a) s ≡ option_map form_of (word_step a w (symbol s))
 word_goes (outside (in_relators s rs None)) w Equals = refl
 word_goes (outside (in_relators s rs None)) w Comma = refl
 word_goes (outside (in_relators s rs None)) w t = refl
@@ -81,8 +86,11 @@ form_goes (behind a s f) (name n) = ap (option_map form_of) (sym (word_ends a (j
 form_goes (behind a s f) (number n) = ap (option_map form_of) (sym (word_ends_number a (joined s f) n))
 form_goes (behind a s f) (symbol t) = word_goes a (joined s f) t
 
-begins : (b c d : Bool) → cond b (Some (form at.Before (Relators false) [])) (cond c (Some (form at.Before (Relators false) [])) (cond d (Some (form at.Start Arrows [])) None))
-    ≡ option_map form_of (cond b (Some (at_factor (outside (in_relators fixed_sort [] None)) None)) (cond c (Some (at_factor (outside (in_relators iterated_sort [] None)) None)) (cond d (Some (at_name [])) None)))
+begins : (b c d : Bool)
+    → cond b (Some (form at.Before (Relators false) []))
+    (cond c (Some (form at.Before (Relators false) [])) (cond d (Some (form at.Start Arrows [])) None))
+    ≡ option_map form_of (cond b (Some (at_factor (outside (in_relators fixed_sort [] None)) None))
+    (cond c (Some (at_factor (outside (in_relators iterated_sort [] None)) None)) (cond d (Some (at_name [])) None)))
 begins true c d = refl
 begins false true d = refl
 begins false false true = refl

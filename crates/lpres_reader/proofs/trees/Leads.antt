@@ -10,7 +10,8 @@ pub leads_nowhere : {A B : Type 0} (R : A → List B → Type 0) (whole : A) →
 leads_nowhere R whole = record { from = λ xs r. r; to = λ xs r. (xs, refl, r) }
 
 -- and on, by one item
-pub leads_on : {A B : Type 0} (R : A → List B → Type 0) (whole rest next : A) (front : List B) (x : B) → Leads R whole front rest → Leads R rest (x ∷ []) next → Leads R whole (front ++ x ∷ []) next
+pub leads_on : {A B : Type 0} (R : A → List B → Type 0) (whole rest next : A) (front : List B) (x : B) → Leads R whole front rest
+    → Leads R rest (x ∷ []) next → Leads R whole (front ++ x ∷ []) next
 leads_on {B = B} R whole rest next front x far one = record {
   from = λ xs r. subst (R whole) (sym (append_assoc front (x ∷ []) xs)) (far.from (x ∷ xs) (one.from xs r));
   to = λ xs r.

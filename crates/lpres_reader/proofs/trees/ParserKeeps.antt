@@ -1,15 +1,22 @@
 -- What is read has the tokens that it is read from: every state keeps the tokens behind which it stands. So a line that
 -- is not read has the tokens of no tree.
-use Rattle.std.proofs.Common.{◌≡◌, ◌≢◌, MatchOption, ℕ, true, List, [], ◌∷◌, ◌++◌, append_assoc, Option, Some, None, option_and_then, refl, sym, ap, subst, ◌∙◌}
+use Rattle.std.proofs.Common.{◌≡◌, ◌≢◌, MatchOption, ℕ, true, List, [], ◌∷◌, ◌++◌, append_assoc, Option, Some, None, option_and_then, refl}
+use Rattle.std.proofs.Common.{sym, ap, subst, ◌∙◌}
 use Rattle.std.proofs.lemmas.List.{append-nil}
 use Rattle.std.proofs.lemmas.Bool.{cond_both}
 use Rattle.std.proofs.lemmas.Slice.Eq.{bytes_eq-Decides}
 use Rattle.std.specs.Prelude.{codes, bytes_eq, cond}
-use Rattle.lpres_reader.specs.declared.token.Symbol.TheVariants.{Arrow, Star, Caret, Minus, Equals, Comma, OpenRound, CloseRound, OpenSquare, CloseSquare}
+use Rattle.lpres_reader.specs.declared.token.Symbol.TheVariants.{Arrow, Star, Caret, Minus, Equals, Comma, OpenRound, CloseRound}
+use Rattle.lpres_reader.specs.declared.token.Symbol.TheVariants.{OpenSquare, CloseSquare}
 use Rattle.lpres_reader.specs.Tokens.{Token, name, number, symbol}
-use Rattle.lpres_reader.specs.Trees.{WordTree, FactorTree, one, UnitTree, named, round, square, two, and_one, fixed_sort, iterated_sort, ItemTree, word_tokens, factor_tokens, unit_tokens, entries_tokens, relator_tokens, arrow_tokens, with_commas, sort_name, item_tokens}
+use Rattle.lpres_reader.specs.Trees.{WordTree, FactorTree, one, UnitTree, named, round, square, two, and_one, fixed_sort, iterated_sort}
+use Rattle.lpres_reader.specs.Trees.{ItemTree, word_tokens, factor_tokens, unit_tokens, entries_tokens, relator_tokens, arrow_tokens}
+use Rattle.lpres_reader.specs.Trees.{with_commas, sort_name, item_tokens}
 use Rattle.lpres_reader.proofs.trees.ParserReads.{parse_item-tokens}
-use Rattle.lpres_reader.specs.Parser.{Place, as_factor, as_exponent, Entered, none, first, several, Outer, in_relators, in_arrows, Around, outside, in_round, in_square, State, at_name, at_arrow, at_factor, at_exponent, at_digits, behind, joined, behind_unit, entered, relator_of, unit_step, square_end, word_step, step, outer_end, line_end, run, begin, parse_item}
+use Rattle.lpres_reader.specs.Parser.{Place, as_factor, as_exponent, Entered, none, first, several, Outer, in_relators, in_arrows, Around}
+use Rattle.lpres_reader.specs.Parser.{outside, in_round, in_square, State, at_name, at_arrow, at_factor, at_exponent, at_digits, behind}
+use Rattle.lpres_reader.specs.Parser.{joined, behind_unit, entered, relator_of, unit_step, square_end, word_step, step, outer_end, line_end}
+use Rattle.lpres_reader.specs.Parser.{run, begin, parse_item}
 
 -- the tokens behind which a state stands
 abbrev start_tokens : Option WordTree → List Token
@@ -51,11 +58,13 @@ abbrev Stands : Option State → List Token → Type 0
 Stands None ts = Unit {0}
 Stands (Some state) ts = state_tokens state ≡ ts
 
-with_commas-append : {X : Type 0} (tokens : X → List Token) (xs : List X) (x y : List Token) → with_commas tokens xs x ++ y ≡ with_commas tokens xs (x ++ y)
+with_commas-append : {X : Type 0} (tokens : X → List Token) (xs : List X) (x y : List Token)
+    → with_commas tokens xs x ++ y ≡ with_commas tokens xs (x ++ y)
 with_commas-append tokens [] x y = refl
 with_commas-append tokens (q ∷ xs) x y = simp (append_assoc, with_commas-append tokens xs x y)
 
-with_commas-push : {X : Type 0} (tokens : X → List Token) (xs : List X) (q : X) (rest : List Token) → with_commas tokens (xs ++ q ∷ []) rest ≡ with_commas tokens xs (tokens q ++ symbol Comma ∷ rest)
+with_commas-push : {X : Type 0} (tokens : X → List Token) (xs : List X) (q : X) (rest : List Token)
+    → with_commas tokens (xs ++ q ∷ []) rest ≡ with_commas tokens xs (tokens q ++ symbol Comma ∷ rest)
 with_commas-push tokens [] q rest = refl
 with_commas-push tokens (p ∷ xs) q rest = simp (with_commas-push tokens xs q rest)
 
@@ -63,7 +72,8 @@ joined_tokens : (s : Option WordTree) (f : FactorTree) → word_tokens (joined s
 joined_tokens None f = refl
 joined_tokens (Some w) f = simp append_assoc
 
-unit_tokens_behind : (a : Around) (p : Place) (u : UnitTree) → state_tokens (behind_unit a p u) ≡ around_tokens a ++ (place_tokens p ++ unit_tokens u)
+unit_tokens_behind : (a : Around) (p : Place) (u : UnitTree)
+    → state_tokens (behind_unit a p u) ≡ around_tokens a ++ (place_tokens p ++ unit_tokens u)
 unit_tokens_behind a (as_factor s) u = refl
 unit_tokens_behind a (as_exponent s f) u = simp append_assoc
 
@@ -83,13 +93,16 @@ unit_stands a p (symbol OpenSquare) = append-nil (around_tokens a ++ (place_toke
 unit_stands a p t = tt
 
 square_stands : (a : Around) (p : Place) (e : Entered) (w : WordTree)
-    → Stands (square_end a p (entered e w)) ((around_tokens a ++ (place_tokens p ++ symbol OpenSquare ∷ entered_tokens e)) ++ (word_tokens w ++ symbol CloseSquare ∷ []))
+    → Stands (square_end a p (entered e w))
+    ((around_tokens a ++ (place_tokens p ++ symbol OpenSquare ∷ entered_tokens e)) ++ (word_tokens w ++ symbol CloseSquare ∷ []))
 square_stands a p none w = tt
 square_stands a p (first u) w = unit_tokens_behind a p (square (two u w)) ∙ simp append_assoc
 square_stands a p (several e) w = unit_tokens_behind a p (square (and_one e w)) ∙ simp append_assoc
 
 word_stands : (a : Around) (w : WordTree) (t : Token) → Stands (word_step a w t) (around_tokens a ++ (word_tokens w ++ t ∷ []))
-word_stands (outside (in_relators s rs None)) w (symbol Equals) = append-nil _ ∙ sym (ap (λ (l : List Token). name (sort_name s) ∷ l) (with_commas-append relator_tokens rs [] (word_tokens w ++ symbol Equals ∷ [])))
+word_stands (outside (in_relators s rs None)) w (symbol Equals) =
+    append-nil _ ∙ sym (ap (λ (l : List Token). name (sort_name s) ∷ l)
+    (with_commas-append relator_tokens rs [] (word_tokens w ++ symbol Equals ∷ [])))
 word_stands (outside (in_relators s rs left)) w (symbol Comma) =
     append-nil _
     ∙ ap (λ (l : List Token). name (sort_name s) ∷ l)
@@ -112,32 +125,44 @@ word_stands a w t = tt
 outer_stands : (o : Outer) (w : WordTree) → item_tokens (outer_end o w) ≡ outer_tokens o ++ word_tokens w
 outer_stands (in_relators s rs left) w =
     ap (λ (l : List Token). name (sort_name s) ∷ l)
-    (ap (with_commas relator_tokens rs) (relator_tokens_of left w) ∙ sym (with_commas-append relator_tokens rs (left_tokens left) (word_tokens w)))
+    (ap (with_commas relator_tokens rs) (relator_tokens_of left w)
+    ∙ sym (with_commas-append relator_tokens rs (left_tokens left) (word_tokens w)))
 outer_stands (in_arrows qs n) w =
     ap (λ (l : List Token). name (codes "endo") ∷ l) (sym (with_commas-append arrow_tokens qs (name n ∷ symbol Arrow ∷ []) (word_tokens w)))
 
 -- behind a factor, any token but `^` and `*` is behind the word
-factor_stands : (a : Around) (s : Option WordTree) (f : FactorTree) (t : Token) → Stands (word_step a (joined s f) t) (around_tokens a ++ (word_tokens (joined s f) ++ t ∷ []))
+factor_stands : (a : Around) (s : Option WordTree) (f : FactorTree) (t : Token)
+    → Stands (word_step a (joined s f) t) (around_tokens a ++ (word_tokens (joined s f) ++ t ∷ []))
     → Stands (word_step a (joined s f) t) (state_tokens (behind a s f) ++ t ∷ [])
 factor_stands a s f t h =
-    let same : around_tokens a ++ (word_tokens (joined s f) ++ t ∷ []) ≡ (around_tokens a ++ (start_tokens s ++ factor_tokens f)) ++ t ∷ [] =
+    let same : around_tokens a ++ (word_tokens (joined s f) ++ t ∷ [])
+    ≡ (around_tokens a ++ (start_tokens s ++ factor_tokens f)) ++ t ∷ [] =
     ap (λ (l : List Token). around_tokens a ++ (l ++ t ∷ [])) (joined_tokens s f) ∙ simp append_assoc in
     subst (Stands (word_step a (joined s f) t)) same h
 
 step_stands : (state : State) (t : Token) → Stands (step state t) (state_tokens state ++ t ∷ [])
-step_stands (at_name qs) (name n) = ap (λ (l : List Token). name (codes "endo") ∷ l) (sym (with_commas-append arrow_tokens qs [] (name n ∷ [])))
+step_stands (at_name qs) (name n) =
+    ap (λ (l : List Token). name (codes "endo") ∷ l) (sym (with_commas-append arrow_tokens qs [] (name n ∷ [])))
 step_stands (at_name qs) t = tt
-step_stands (at_arrow qs n) (symbol Arrow) = append-nil _ ∙ ap (λ (l : List Token). name (codes "endo") ∷ l) (sym (with_commas-append arrow_tokens qs (name n ∷ []) (symbol Arrow ∷ [])))
+step_stands (at_arrow qs n) (symbol Arrow) =
+    append-nil _ ∙ ap (λ (l : List Token). name (codes "endo") ∷ l)
+    (sym (with_commas-append arrow_tokens qs (name n ∷ []) (symbol Arrow ∷ [])))
 step_stands (at_arrow qs n) t = tt
 step_stands (at_factor a s) (number digits) =
-    cond_both (bytes_eq digits (codes "1")) (Some (behind a s one)) None (λ o. Stands o (state_tokens (at_factor a s) ++ number digits ∷ []))
+    cond_both (bytes_eq digits (codes "1")) (Some (behind a s one)) None
+    (λ o. Stands o (state_tokens (at_factor a s) ++ number digits ∷ []))
     (λ e. let is : digits ≡ codes "1" = (bytes_eq-Decides digits (codes "1")).0 e in
     simp append_assoc (ap (λ (d : List ℕ). around_tokens a ++ (start_tokens s ++ number d ∷ [])) (sym is)))
     (λ e. tt)
-step_stands (at_factor a s) t = subst (Stands (unit_step a (as_factor s) t)) (sym (append_assoc (around_tokens a) (start_tokens s) (t ∷ []))) (unit_stands a (as_factor s) t)
+step_stands (at_factor a s) t =
+    subst (Stands (unit_step a (as_factor s) t)) (sym (append_assoc (around_tokens a) (start_tokens s) (t ∷ [])))
+    (unit_stands a (as_factor s) t)
 step_stands (at_exponent a s f) (number digits) = simp append_assoc
 step_stands (at_exponent a s f) (symbol Minus) = simp append_assoc
-step_stands (at_exponent a s f) t = subst (Stands (unit_step a (as_exponent s f) t)) (sym (append_assoc (around_tokens a) (start_tokens s ++ (factor_tokens f ++ symbol Caret ∷ [])) (t ∷ []))) (unit_stands a (as_exponent s f) t)
+step_stands (at_exponent a s f) t =
+    subst (Stands (unit_step a (as_exponent s f) t))
+    (sym (append_assoc (around_tokens a) (start_tokens s ++ (factor_tokens f ++ symbol Caret ∷ [])) (t ∷ [])))
+    (unit_stands a (as_exponent s f) t)
 step_stands (at_digits a s f) (number digits) = simp append_assoc
 step_stands (at_digits a s f) t = tt
 step_stands (behind a s f) (symbol Caret) = simp append_assoc
@@ -160,11 +185,13 @@ end_stands (behind (outside o) s f) = outer_stands o (joined s f) ∙ ap (λ (l 
 end_stands (behind (in_round p a) s f) = tt
 end_stands (behind (in_square p e a) s f) = tt
 
-run_stands : (ts : List Token) (read : List Token) (o : Option State) → Stands o read → IsTreeOf (option_and_then (λ state. run state ts) o) (read ++ ts)
+run_stands : (ts : List Token) (read : List Token) (o : Option State) → Stands o read
+    → IsTreeOf (option_and_then (λ state. run state ts) o) (read ++ ts)
 run_stands ts read None h = tt
 run_stands [] read (Some state) h = subst (IsTreeOf (line_end state)) (h ∙ sym (append-nil read)) (end_stands state)
 run_stands (t ∷ ts) read (Some state) h =
-    let next : Stands (step state t) (read ++ t ∷ []) = subst (λ (l : List Token). Stands (step state t) (l ++ t ∷ [])) h (step_stands state t) in
+    let next : Stands (step state t) (read ++ t ∷ []) =
+    subst (λ (l : List Token). Stands (step state t) (l ++ t ∷ [])) h (step_stands state t) in
     subst (IsTreeOf (run state (t ∷ ts))) (append_assoc read (t ∷ []) ts) (run_stands ts (read ++ t ∷ []) (step state t) next)
 
 begin_stands : (n : List ℕ) → Stands (begin n) (name n ∷ [])
@@ -173,8 +200,10 @@ begin_stands n =
     let endo = cond (bytes_eq n (codes "endo")) (Some (at_name [])) None in
     let iterated = cond (bytes_eq n (codes "iterated")) (Some (at_factor (outside (in_relators iterated_sort [] None)) None)) endo in
     let is = λ (k : List ℕ) (e : bytes_eq n k ≡ true). ap (λ (l : List ℕ). name l ∷ []) (sym ((bytes_eq-Decides n k).0 e)) in
-    cond_both (bytes_eq n (codes "fixed")) (Some (at_factor (outside (in_relators fixed_sort [] None)) None)) iterated keep (is (codes "fixed"))
-    (λ _. cond_both (bytes_eq n (codes "iterated")) (Some (at_factor (outside (in_relators iterated_sort [] None)) None)) endo keep (is (codes "iterated"))
+    cond_both (bytes_eq n (codes "fixed")) (Some (at_factor (outside (in_relators fixed_sort [] None)) None)) iterated keep
+    (is (codes "fixed"))
+    (λ _. cond_both (bytes_eq n (codes "iterated")) (Some (at_factor (outside (in_relators iterated_sort [] None)) None)) endo keep
+    (is (codes "iterated"))
     (λ _. cond_both (bytes_eq n (codes "endo")) (Some (at_name [])) None keep (is (codes "endo")) (λ _. tt)))
 
 pub parse_item_keeps : (ts : List Token) → IsTreeOf (parse_item ts) ts

@@ -13,7 +13,8 @@ last_step : (o : Option State) → option_and_then (λ x. Some x) o ≡ o
 last_step None = refl
 last_step (Some x) = refl
 
-push_on : (o : Option State) (next : State) (ts us : List Token) (n : Option State) → ((x : State) → steps x ts ≡ Some next → steps x us ≡ n)
+push_on : (o : Option State) (next : State) (ts us : List Token) (n : Option State)
+    → ((x : State) → steps x ts ≡ Some next → steps x us ≡ n)
     → option_and_then (λ x. steps x ts) o ≡ Some next → option_and_then (λ x. steps x us) o ≡ n
 push_on None next ts us n ih f = absurd (cc f)
 push_on (Some x) next ts us n ih f = ih x f
@@ -22,7 +23,8 @@ pub steps-push : (state next : State) (ts : List Token) (t : Token) → steps st
 steps-push state next [] t e = let same : state ≡ next = cc in last_step (step state t) ∙ ap (λ (s : State). step s t) same
 steps-push state next (u ∷ ts) t e = push_on (step state u) next ts (ts ++ t ∷ []) (step next t) (λ x f. steps-push x next ts t f) e
 
-runs_push : (o : Option State) (next : State) (ts us : List Token) (n : Option ItemTree) → ((x : State) → steps x ts ≡ Some next → run x us ≡ n)
+runs_push : (o : Option State) (next : State) (ts us : List Token) (n : Option ItemTree)
+    → ((x : State) → steps x ts ≡ Some next → run x us ≡ n)
     → option_and_then (λ x. steps x ts) o ≡ Some next → option_and_then (λ x. run x us) o ≡ n
 runs_push None next ts us n ih f = absurd (cc f)
 runs_push (Some x) next ts us n ih f = ih x f

@@ -8,11 +8,16 @@ use Rattle.pq_base.specs.LPresentation.{AreDistinct}
 use Rattle.lpres_reader.specs.declared.token.Symbol.TheVariants.{Arrow, Equals, Comma}
 use Rattle.lpres_reader.specs.Tokens.{Token, name, symbol}
 use Rattle.lpres_reader.specs.Words.{letter_limit}
-use Rattle.lpres_reader.specs.Items.{ReadsRelator, plain, ReadsRelators, last_relator, next_relator, Mapping, ReadsArrow, an_arrow, ReadsArrows, last_arrow, next_arrow, GivesEach, Item, fixed, iterated, ReadsItem, fixed_line, iterated_line, endo_line}
-use Rattle.lpres_reader.specs.Trees.{RelatorTree, word, equation, ArrowTree, fixed_sort, iterated_sort, ItemTree, relators, arrows, word_tokens, relator_tokens, arrow_tokens, with_commas, body_tokens, item_tokens, place_of, word_meaning, relator_meaning, known_place, arrow_meaning, AreKnown, GivesAll, item_meaning}
+use Rattle.lpres_reader.specs.Items.{ReadsRelator, plain, ReadsRelators, last_relator, next_relator, Mapping, ReadsArrow, an_arrow}
+use Rattle.lpres_reader.specs.Items.{ReadsArrows, last_arrow, next_arrow, GivesEach, Item, fixed, iterated, ReadsItem, fixed_line}
+use Rattle.lpres_reader.specs.Items.{iterated_line, endo_line}
+use Rattle.lpres_reader.specs.Trees.{RelatorTree, word, equation, ArrowTree, fixed_sort, iterated_sort, ItemTree, relators, arrows}
+use Rattle.lpres_reader.specs.Trees.{word_tokens, relator_tokens, arrow_tokens, with_commas, body_tokens, item_tokens, place_of}
+use Rattle.lpres_reader.specs.Trees.{word_meaning, relator_meaning, known_place, arrow_meaning, AreKnown, GivesAll, item_meaning}
 use Rattle.lpres_reader.specs.Trials.{AreKept, letters_tried, word_trials, relator_trials}
 use Rattle.lpres_reader.proofs.names.Places.{place_of-known}
-use Rattle.lpres_reader.proofs.trees.TreeWords.{TreeOf, word_of, reads_word, word_short, known_append, known_parts, kept_parts, joined_trials}
+use Rattle.lpres_reader.proofs.trees.TreeWords.{TreeOf, word_of, reads_word, word_short, known_append, known_parts, kept_parts}
+use Rattle.lpres_reader.proofs.trees.TreeWords.{joined_trials}
 
 -- the trials of the parts of a line
 abbrev pub RelatorsKept : List (List ℕ) → List RelatorTree → Type 0
@@ -34,7 +39,8 @@ pub record ItemOf (names : List (List ℕ)) (ts : List Token) (item : Item) : Ty
   pub means : item ≡ item_meaning names tree gives
 
 -- a list of trees with commas between them
-pub record ListOf {T Y : Type 0} (tokens : T → List Token) (Kept : T → Type 0) (meaning : T → Y) (names : List (List ℕ)) (ts : List Token) (ys : List Y) : Type 0 where
+pub record ListOf {T Y : Type 0} (tokens : T → List Token) (Kept : T → Type 0) (meaning : T → Y) (names : List (List ℕ)) (ts : List Token)
+    (ys : List Y) : Type 0 where
   pub before : List T
   pub last : T
   pub spelled : ts ≡ with_commas tokens before (tokens last)
@@ -65,10 +71,12 @@ module _ (names : List (List ℕ)) (distinct : AreDistinct names) where
   pub relator_short : (t : RelatorTree) → AreKept (relator_trials names t) → length (relator_meaning names t) ≤ letter_limit
   relator_short (word w) h = word_short names distinct w h
   relator_short (equation u v) h =
-      let last = kept_parts (word_trials names v) (letters_tried (relator_meaning names (equation u v))) (kept_parts (word_trials names u) _ h).1 in
+      let last =
+      kept_parts (word_trials names v) (letters_tried (relator_meaning names (equation u v))) (kept_parts (word_trials names u) _ h).1 in
       last.1.0
 
-  pub reads_relator : (t : RelatorTree) → AreKnown names (relator_tokens t) → AreKept (relator_trials names t) → ReadsRelator names (relator_tokens t) (relator_meaning names t)
+  pub reads_relator : (t : RelatorTree) → AreKnown names (relator_tokens t) → AreKept (relator_trials names t)
+      → ReadsRelator names (relator_tokens t) (relator_meaning names t)
   reads_relator (word w) k h = plain (reads_word names distinct w k h)
   reads_relator (equation u v) k h =
       let known = known_parts names (word_tokens u) (symbol Equals ∷ word_tokens v) k in
@@ -83,7 +91,14 @@ module _ (names : List (List ℕ)) (distinct : AreDistinct names) where
   pub relators_of : {ts : List Token} {ws : List (List ℤ)} → ReadsRelators names ts ws → RelatorsOf ts ws
   relators_of (last_relator d) =
       let a = relator_of d in
-      record { before = []; last = a.tree; spelled = a.spelled; known = a.known; kept = (a.kept, tt); means = ap (λ (w : List ℤ). w ∷ []) a.means }
+      record {
+        before = [];
+        last = a.tree;
+        spelled = a.spelled;
+        known = a.known;
+        kept = (a.kept, tt);
+        means = ap (λ (w : List ℤ). w ∷ []) a.means;
+      }
   relators_of (next_relator us vs e d1 d2) =
       let a = relator_of d1 in
       let b = relators_of d2 in
@@ -96,7 +111,8 @@ module _ (names : List (List ℕ)) (distinct : AreDistinct names) where
         means = ap₂ (λ (w : List ℤ) (ws : List (List ℤ)). w ∷ ws) a.means b.means;
       }
 
-  pub reads_relators : (rs : List RelatorTree) (r : RelatorTree) → AreKnown names (with_commas relator_tokens rs (relator_tokens r)) → RelatorsKept names (rs ++ r ∷ [])
+  pub reads_relators : (rs : List RelatorTree) (r : RelatorTree) → AreKnown names (with_commas relator_tokens rs (relator_tokens r))
+      → RelatorsKept names (rs ++ r ∷ [])
       → ReadsRelators names (with_commas relator_tokens rs (relator_tokens r)) (map (relator_meaning names) (rs ++ r ∷ []))
   reads_relators [] r k h = last_relator (reads_relator r k h.0)
   reads_relators (q ∷ rs) r k h =
@@ -119,10 +135,12 @@ module _ (names : List (List ℕ)) (distinct : AreDistinct names) where
         spelled = ap (λ (x : List Token). name n ∷ symbol Arrow ∷ x) a.spelled;
         known = ((k, short, is), a.known);
         kept = a.kept;
-        means = ap₂ (λ (i : ℕ) (w : List ℤ). let m : Mapping = record { from = i; to = w } in m) (sym (ap known_place (place_of-known names n k distinct short is))) a.means;
+        means = ap₂ (λ (i : ℕ) (w : List ℤ). let m : Mapping = record { from = i; to = w } in m)
+            (sym (ap known_place (place_of-known names n k distinct short is))) a.means;
       }
 
-  pub reads_arrow : (q : ArrowTree) → AreKnown names (arrow_tokens q) → AreKept (word_trials names q.to) → ReadsArrow names (arrow_tokens q) (arrow_meaning names q)
+  pub reads_arrow : (q : ArrowTree) → AreKnown names (arrow_tokens q) → AreKept (word_trials names q.to)
+      → ReadsArrow names (arrow_tokens q) (arrow_meaning names q)
   reads_arrow q k h =
       let place : known_place (place_of names q.from) ≡ k.0.0 = ap known_place (place_of-known names q.from k.0.0 distinct k.0.1 k.0.2) in
       subst (λ (i : ℕ). ReadsArrow names (arrow_tokens q) (record { from = i; to = word_meaning names q.to })) (sym place)
@@ -134,7 +152,14 @@ module _ (names : List (List ℕ)) (distinct : AreDistinct names) where
   pub arrows_of : {ts : List Token} {ms : List Mapping} → ReadsArrows names ts ms → ArrowsOf ts ms
   arrows_of (last_arrow d) =
       let a = arrow_of d in
-      record { before = []; last = a.tree; spelled = a.spelled; known = a.known; kept = (a.kept, tt); means = ap (λ (m : Mapping). m ∷ []) a.means }
+      record {
+        before = [];
+        last = a.tree;
+        spelled = a.spelled;
+        known = a.known;
+        kept = (a.kept, tt);
+        means = ap (λ (m : Mapping). m ∷ []) a.means;
+      }
   arrows_of (next_arrow us vs e d1 d2) =
       let a = arrow_of d1 in
       let b = arrows_of d2 in
@@ -147,7 +172,8 @@ module _ (names : List (List ℕ)) (distinct : AreDistinct names) where
         means = ap₂ (λ (m : Mapping) (ms : List Mapping). m ∷ ms) a.means b.means;
       }
 
-  pub reads_arrows : (qs : List ArrowTree) (q : ArrowTree) → AreKnown names (with_commas arrow_tokens qs (arrow_tokens q)) → ArrowsKept names (qs ++ q ∷ [])
+  pub reads_arrows : (qs : List ArrowTree) (q : ArrowTree) → AreKnown names (with_commas arrow_tokens qs (arrow_tokens q))
+      → ArrowsKept names (qs ++ q ∷ [])
       → ReadsArrows names (with_commas arrow_tokens qs (arrow_tokens q)) (map (arrow_meaning names) (qs ++ q ∷ []))
   reads_arrows [] q k h = last_arrow (reads_arrow q k h.0)
   reads_arrows (p ∷ qs) q k h =
@@ -188,7 +214,8 @@ module _ (names : List (List ℕ)) (distinct : AreDistinct names) where
         means = refl;
       }
 
-  pub reads_item : (i : ItemTree) → AreKnown names (body_tokens i) → PartsKept names i → (g : GivesAll names i) → ReadsItem names (item_tokens i) (item_meaning names i g)
+  pub reads_item : (i : ItemTree) → AreKnown names (body_tokens i) → PartsKept names i → (g : GivesAll names i)
+      → ReadsItem names (item_tokens i) (item_meaning names i g)
   reads_item (relators fixed_sort rs r) k h g = fixed_line (reads_relators rs r k h)
   reads_item (relators iterated_sort rs r) k h g = iterated_line (reads_relators rs r k h)
   reads_item (arrows qs q) k h g = endo_line (map (arrow_meaning names) (qs ++ q ∷ [])) (reads_arrows qs q k h) g.1

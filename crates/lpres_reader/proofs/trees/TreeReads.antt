@@ -20,24 +20,31 @@ each_line_is_one_tree line = record {
   one_tree = λ i j d e. item_tokens_unique i j (tokens_unique (item_tokens i) (item_tokens j) line d e);
 }
 
-word_read : (names : List (List ℕ)) (distinct : AreDistinct names) (ts : List Token) (w : List ℤ) → MeansWord names ts w → ReadsWord names ts w
+word_read : (names : List (List ℕ)) (distinct : AreDistinct names) (ts : List Token) (w : List ℤ) → MeansWord names ts w
+    → ReadsWord names ts w
 word_read names distinct ts w m =
     let read = reads_word names distinct m.tree (subst (AreKnown names) m.spelled m.known) m.kept in
     subst (λ (us : List Token). ReadsWord names us w) (sym m.spelled) (subst (ReadsWord names (word_tokens m.tree)) (sym m.means) read)
 
 pub words_read_as_their_trees : WordsReadAsTheirTrees
-words_read_as_their_trees names distinct ts w =
-    (λ d. let a = word_of names distinct d in record { tree = a.tree; spelled = a.spelled; known = a.known; kept = a.kept; means = a.means }, word_read names distinct ts w)
+words_read_as_their_trees names distinct ts w = (
+  λ d. let a = word_of names distinct d in
+      record { tree = a.tree; spelled = a.spelled; known = a.known; kept = a.kept; means = a.means },
+  word_read names distinct ts w,
+)
 
-item_read : (M : LPresentation) → AreDistinct M.names → IsWithinLimits M → (ts : List Token) (item : Item) → MeansItem M ts item → ReadsItem M.names ts item × IsWithinLimits (added M item)
+item_read : (M : LPresentation) → AreDistinct M.names → IsWithinLimits M → (ts : List Token) (item : Item) → MeansItem M ts item
+    → ReadsItem M.names ts item × IsWithinLimits (added M item)
 item_read M distinct within ts item m =
     let parts = within_added M m.tree m.gives distinct within m.kept in
     let read = reads_item M.names distinct m.tree m.known parts.0 m.gives in (
-      subst (λ (us : List Token). ReadsItem M.names us item) (sym m.spelled) (subst (ReadsItem M.names (item_tokens m.tree)) (sym m.means) read),
+      subst (λ (us : List Token). ReadsItem M.names us item) (sym m.spelled)
+          (subst (ReadsItem M.names (item_tokens m.tree)) (sym m.means) read),
       subst (λ (x : Item). IsWithinLimits (added M x)) (sym m.means) parts.1,
     )
 
-item_means : (M : LPresentation) → AreDistinct M.names → (ts : List Token) (item : Item) → ReadsItem M.names ts item → IsWithinLimits (added M item) → MeansItem M ts item
+item_means : (M : LPresentation) → AreDistinct M.names → (ts : List Token) (item : Item) → ReadsItem M.names ts item
+    → IsWithinLimits (added M item) → MeansItem M ts item
 item_means M distinct ts item d within =
     let a = item_of M.names distinct d in
     record {

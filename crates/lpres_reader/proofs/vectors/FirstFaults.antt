@@ -80,7 +80,8 @@ deep_enough = fails_at _ _ _ refl
 -- blanks alone, as many as there are
 blank_front : (t : List ℕ) → list_all is_blank t ≡ true → front_of t ≡ line_end
 blank_front [] h = refl
-blank_front (b ∷ t) h = let parts = and_parts (is_blank b) (list_all is_blank t) h in cond-true (is_blank b) (front_of t) (front_at b t) parts.0 ∙ blank_front t parts.1
+blank_front (b ∷ t) h = let parts = and_parts (is_blank b) (list_all is_blank t) h in
+    cond-true (is_blank b) (front_of t) (front_at b t) parts.0 ∙ blank_front t parts.1
 
 blank_line : (t : List ℕ) → list_all is_blank t ≡ true → AllByRecursion (λ b. eqb b 10 ≡ false) t
 blank_line [] h = tt
@@ -95,4 +96,5 @@ blanks_alone t h =
     let none : list_any (λ line. is_generators (front_of line)) (lines_of t) ≡ false =
     ap (list_any (λ line. is_generators (front_of line))) one ∙ ap (λ f. is_generators f || false) (blank_front t h) in
     fails_at t 1 Syntax
-    (cond-false (list_any (λ line. is_generators (front_of line)) (lines_of t)) _ _ none ∙ ap (λ (ls : List (List ℕ)). Err (length ls, Syntax)) one)
+    (cond-false (list_any (λ line. is_generators (front_of line)) (lines_of t)) _ _ none
+    ∙ ap (λ (ls : List (List ℕ)). Err (length ls, Syntax)) one)

@@ -32,5 +32,6 @@ abbrev identity : List ℕ
 identity = codes "endo x -> x"
 
 -- on the line of one endomorphism too many this comes first
-pub seventeen_endomorphisms : FirstFault (text (one_generator ∷ (replicate 16 identity ++ codes "endo x -> x^70000" ∷ []))) 18 (Limit Endos 17)
+pub seventeen_endomorphisms : FirstFault (text (one_generator ∷ (replicate 16 identity ++ codes "endo x -> x^70000" ∷ []))) 18
+    (Limit Endos 17)
 seventeen_endomorphisms = fails_at _ _ _ refl

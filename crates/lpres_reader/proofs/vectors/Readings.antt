@@ -25,7 +25,8 @@ pub commutator_of_three : Reads (text (codes "generators x y" ∷ codes "fixed [
 commutator_of_three = reads_as _ _ refl
 
 -- an equation is the left side times the inverse of the right one
-pub equation_of_powers : Reads (text (codes "generators x y" ∷ codes "fixed x^2 = y*x" ∷ [])) (one_fixed (pos 1 ∷ pos 1 ∷ negsuc 0 ∷ negsuc 1 ∷ []))
+pub equation_of_powers : Reads (text (codes "generators x y" ∷ codes "fixed x^2 = y*x" ∷ []))
+    (one_fixed (pos 1 ∷ pos 1 ∷ negsuc 0 ∷ negsuc 1 ∷ []))
 equation_of_powers = reads_as _ _ refl
 
 -- `^` binds tighter than `*`, brackets bind tightest, and nothing cancels
@@ -34,16 +35,20 @@ pub products_and_powers : Reads (text (codes "generators x y" ∷ codes "fixed x
 products_and_powers = reads_as _ _ refl
 
 -- the empty word, as a relator and as a factor
-pub empty_words : Reads (text (codes "generators x y" ∷ codes "fixed 1, 1*x*1^5" ∷ [])) (record { names = xy; fixed = [] ∷ (pos 1 ∷ []) ∷ []; iterated = []; endos = [] })
+pub empty_words : Reads (text (codes "generators x y" ∷ codes "fixed 1, 1*x*1^5" ∷ []))
+    (record { names = xy; fixed = [] ∷ (pos 1 ∷ []) ∷ []; iterated = []; endos = [] })
 empty_words = reads_as _ _ refl
 
 -- exponents may have leading zeros, and a minus before zero
-pub odd_exponents : Reads (text (codes "generators x y" ∷ codes "fixed x^002, x^-0" ∷ [])) (record { names = xy; fixed = (pos 1 ∷ pos 1 ∷ []) ∷ [] ∷ []; iterated = []; endos = [] })
+pub odd_exponents : Reads (text (codes "generators x y" ∷ codes "fixed x^002, x^-0" ∷ []))
+    (record { names = xy; fixed = (pos 1 ∷ pos 1 ∷ []) ∷ [] ∷ []; iterated = []; endos = [] })
 odd_exponents = reads_as _ _ refl
 
 -- comments, blank lines, commas between names, blanks between tokens, keywords as names, arrows in any order, lines in any
 -- order, and a last line without a newline
-pub all_kinds_of_lines : Reads (text (codes "# a comment" ∷ codes "generators fixed, endo x" ∷ [] ∷ codes "endo x -> fixed, fixed->x , endo -> 1" ∷ codes "iterated\tendo" ∷ codes "  fixed fixed" ∷ []) ++ codes "iterated x ^ - 1")
+pub all_kinds_of_lines : Reads
+    (text (codes "# a comment" ∷ codes "generators fixed, endo x" ∷ [] ∷ codes "endo x -> fixed, fixed->x , endo -> 1"
+    ∷ codes "iterated\tendo" ∷ codes "  fixed fixed" ∷ []) ++ codes "iterated x ^ - 1")
     (record {
       names = codes "fixed" ∷ codes "endo" ∷ codes "x" ∷ [];
       fixed = (pos 1 ∷ []) ∷ [];

@@ -7,7 +7,9 @@ use Rattle.pq_base.specs.Presentation.{Presentation, letter}
 use Rattle.pq_base.specs.Joined.{Joined}
 use Rattle.pq_base.proofs.words.WordLaws.{append-copies, copies-add, inv-comm}
 use Rattle.pq_base.proofs.words.LetterLaws.{HasLetters-inv, HasLetters-append, HasLetters-comm, HasLetters-copies, HasLetters-letter}
-use Rattle.pq_base.proofs.words.JoinedLaws.{joined-refl, joined-from_equal, joined-sym, joined-trans, joined-append, joined-append_left, joined-append_right, joined-comm, joined-solve_left, comm-joined_nil, append-inv-joined, append-append-inv-joined, append-swap-joined}
+use Rattle.pq_base.proofs.words.JoinedLaws.{joined-refl, joined-from_equal, joined-sym, joined-trans, joined-append, joined-append_left}
+use Rattle.pq_base.proofs.words.JoinedLaws.{joined-append_right, joined-comm, joined-solve_left, comm-joined_nil, append-inv-joined}
+use Rattle.pq_base.proofs.words.JoinedLaws.{append-append-inv-joined, append-swap-joined}
 use Rattle.pq_base.proofs.groups.GroupCommute.{Commute, conjugate_in-commute}
 use Rattle.pq_base.proofs.groups.GroupIdentities.{commutator_in-times_left, commutator_in-times_right}
 use Rattle.pq_base.proofs.words.WordGroup.{word_group}
@@ -109,7 +111,8 @@ module _ (P : Presentation) (S : List ℤ → Type 0) (set : IsCentralSet P S) w
       let at_z : Joined P (comm x (inv z)) (inv (comm x z)) = comm-inv_right P x z ((set.central e t).commutes (inv z) inv_z) in
       let at_y : Joined P (comm x (inv y)) (inv (comm x y)) = comm-inv_right P x y ((set.central d s).commutes (inv y) inv_y) in
       let second : Joined P (comm x (inv z ++ (y ++ z))) ((comm x z ++ comm x y) ++ inv (comm x z)) =
-      joined-trans (comm-append_right P x (inv z) (y ++ z) ((set.central (comm x (inv z)) t').commutes (y ++ z) yz)) (joined-append first at_z) in
+      joined-trans (comm-append_right P x (inv z) (y ++ z) ((set.central (comm x (inv z)) t').commutes (y ++ z) yz))
+      (joined-append first at_z) in
       let third : Joined P (comm x (comm y z)) (((comm x z ++ comm x y) ++ inv (comm x z)) ++ inv (comm x y)) =
       joined-trans
       (comm-append_right P x (inv y) (inv z ++ (y ++ z))
@@ -125,7 +128,8 @@ module _ (P : Presentation) (S : List ℤ → Type 0) (set : IsCentralSet P S) w
   pub comm-copies : (x y : List ℤ) (n : ℕ) → HasLetters P.rank y → S (comm x y) → Joined P (comm x (copies y n)) (copies (comm x y) n)
   comm-copies x y zero h s = comm-nil_right P x
   comm-copies x y (suc n) h s =
-      joined-trans (comm-append_right P x y (copies y n) ((set.central (comm x y) s).commutes (copies y n) (HasLetters-copies P.rank y n h)))
+      joined-trans (comm-append_right P x y (copies y n)
+      ((set.central (comm x y) s).commutes (copies y n) (HasLetters-copies P.rank y n h)))
       (joined-trans (joined-append_right (comm x y) (comm-copies x y n h s))
       (joined-from_equal P (sym (append-copies (comm x y) n))))
 
@@ -154,7 +158,8 @@ module _ (P : Presentation) (S : List ℤ → Type 0) (set : IsCentralSet P S) w
       }
 
   -- so where the powers of x and y and their commutator lie in the set, the power of the product does
-  pub copies-product_kept : (x y : List ℤ) (k : ℕ) → HasLetters P.rank x → HasLetters P.rank y → S (comm y x) → S (copies x k) → S (copies y k)
+  pub copies-product_kept : (x y : List ℤ) (k : ℕ) → HasLetters P.rank x → HasLetters P.rank y → S (comm y x) → S (copies x k)
+      → S (copies y k)
       → S (copies (x ++ y) k)
   copies-product_kept x y k h i s a b =
       let r = copies-product x y k h i s in

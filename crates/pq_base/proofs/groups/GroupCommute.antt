@@ -1,7 +1,8 @@
 -- Elements that commute, and elements that commute with a closed part of a group: products, inverses and powers of such
 -- elements are such, and they go out of commutators, powers and conjugates.
 use Rattle.std.proofs.Common.{ℕ, zero, suc, [], ◌∷◌, refl}
-use Rattle.pq_base.proofs.groups.Groups.{Group, power_in, conjugate_in, commutator_in, times-same_left, times-same_right, times_in-cancel_left, inverse_in-times-times}
+use Rattle.pq_base.proofs.groups.Groups.{Group, power_in, conjugate_in, commutator_in, times-same_left, times-same_right}
+use Rattle.pq_base.proofs.groups.Groups.{times_in-cancel_left, inverse_in-times-times}
 use Rattle.pq_base.proofs.groups.GroupSolver.{conj_of, comm_of, by_reduction}
 use Rattle.pq_base.proofs.groups.GroupSolver.Product.{at, product, inverted}
 use Rattle.pq_base.proofs.groups.GroupIdentities.{times_in-swap, commutator_in-times_left, inverse_in-commutator}
@@ -38,7 +39,8 @@ module _ (G : Group) where
   commute-inverse a b h = record {
     swap =
         times_in-cancel_left G a (G.times (G.inverse a) b) (G.times b (G.inverse a))
-        (G.transitive (by_reduction G (a ∷ b ∷ []) (product (at 0) (product (inverted (at 0)) (at 1))) (product (product (at 1) (at 0)) (inverted (at 0))) refl)
+        (G.transitive (by_reduction G (a ∷ b ∷ []) (product (at 0) (product (inverted (at 0)) (at 1)))
+        (product (product (at 1) (at 0)) (inverted (at 0))) refl)
         (G.transitive (times-same_right G (G.inverse a) (G.symmetric h.swap)) (G.associative a b (G.inverse a))));
   }
 
@@ -62,15 +64,18 @@ module _ (G : Group) where
   conjugate_in-commute a b h = G.transitive (times-same_left G (G.inverse b) h.swap) (inverse_in-times-times G b a)
 
   -- the power of a product of elements that commute
-  pub power_in-times : (a b : G.carrier) (n : ℕ) → Commute G a b → G.same (power_in G (G.times a b) n) (G.times (power_in G a n) (power_in G b n))
+  pub power_in-times : (a b : G.carrier) (n : ℕ) → Commute G a b
+      → G.same (power_in G (G.times a b) n) (G.times (power_in G a n) (power_in G b n))
   power_in-times a b zero h = G.symmetric (G.one_left G.one)
   power_in-times a b (suc n) h =
       let x = power_in G a n in
       let y = power_in G b n in
       G.transitive (times-same_left G (G.times a b) (power_in-times a b n h))
-      (G.transitive (by_reduction G (a ∷ b ∷ x ∷ y ∷ []) (product (product (at 0) (at 1)) (product (at 2) (at 3))) (product (at 0) (product (product (at 1) (at 2)) (at 3))) refl)
+      (G.transitive (by_reduction G (a ∷ b ∷ x ∷ y ∷ []) (product (product (at 0) (at 1)) (product (at 2) (at 3)))
+      (product (at 0) (product (product (at 1) (at 2)) (at 3))) refl)
       (G.transitive (times-same_left G a (times-same_right G y (G.symmetric (commute-power a b n h).swap)))
-      (by_reduction G (a ∷ b ∷ x ∷ y ∷ []) (product (at 0) (product (product (at 2) (at 1)) (at 3))) (product (product (at 0) (at 2)) (product (at 1) (at 3))) refl)))
+      (by_reduction G (a ∷ b ∷ x ∷ y ∷ []) (product (at 0) (product (product (at 2) (at 1)) (at 3)))
+      (product (product (at 0) (at 2)) (product (at 1) (at 3))) refl)))
 
 -- an element that commutes with all of V
 pub record IsCentralIn (G : Group) (V : G.carrier → Type 0) (z : G.carrier) : Type 0 where
@@ -118,9 +123,11 @@ module _ (G : Group) (V : G.carrier → Type 0) where
     pub conjugate_in-central : (u v z : G.carrier) → V u → V v → IsCentralIn G V z
         → G.same (conjugate_in G u (G.times v z)) (conjugate_in G u v)
     conjugate_in-central u v z h i c =
-        G.transitive (by_reduction G (u ∷ v ∷ z ∷ []) (conj_of (at 0) (product (at 1) (at 2))) (conj_of (conj_of (at 0) (at 1)) (at 2)) refl)
+        G.transitive (by_reduction G (u ∷ v ∷ z ∷ []) (conj_of (at 0) (product (at 1) (at 2)))
+        (conj_of (conj_of (at 0) (at 1)) (at 2)) refl)
         (conjugate_in-commute G (conjugate_in G u v) z
-        (commute-sym G (c.commutes (conjugate_in G u v) (closed.times (G.inverse v) (G.times u v) (closed.inverse v i) (closed.times u v h i)))))
+        (commute-sym G (c.commutes (conjugate_in G u v)
+        (closed.times (G.inverse v) (G.times u v) (closed.inverse v i) (closed.times u v h i)))))
 
     pub power_in-central : (u z : G.carrier) (n : ℕ) → V u → IsCentralIn G V z
         → G.same (power_in G (G.times u z) n) (G.times (power_in G u n) (power_in G z n))

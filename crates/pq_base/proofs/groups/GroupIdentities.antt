@@ -1,7 +1,8 @@
 -- The identities of conjugates, commutators and powers that hold in every group.
 use Rattle.std.proofs.Common.{ℕ, zero, suc, ◌+◌, [], ◌∷◌, refl, ap}
 use Rattle.std.proofs.Math.Nat.{zero-add, suc-add}
-use Rattle.pq_base.proofs.groups.Groups.{Group, power_in, conjugate_in, commutator_in, same_from_equal, times-same_left, times-same_right, inverse_in-one, inverse_in-times}
+use Rattle.pq_base.proofs.groups.Groups.{Group, power_in, conjugate_in, commutator_in, same_from_equal, times-same_left, times-same_right}
+use Rattle.pq_base.proofs.groups.Groups.{inverse_in-one, inverse_in-times}
 use Rattle.pq_base.proofs.groups.GroupSolver.{Product, conj_of, comm_of, by_reduction}
 use Rattle.pq_base.proofs.groups.GroupSolver.Product.{at, unit, product, inverted}
 

@@ -2,8 +2,10 @@
 -- inverses. Its levels are closed under products, inverses and conjugates, and fall.
 use Rattle.std.proofs.Common.{ℕ, zero, suc, ◌+◌, subst}
 use Rattle.std.proofs.Math.Nat.{add-zero, add-suc}
-use Rattle.pq_base.proofs.groups.Groups.{Group, power_in, conjugate_in, commutator_in, times-same_left, times-same_right, inverse_in-one, inverse_in-times}
-use Rattle.pq_base.proofs.groups.GroupIdentities.{conjugate_in-one, conjugate_in-times, conjugate_in-commutator, conjugate_in-power, inverse_in-commutator_conjugate, inverse_in-power}
+use Rattle.pq_base.proofs.groups.Groups.{Group, power_in, conjugate_in, commutator_in, times-same_left, times-same_right, inverse_in-one}
+use Rattle.pq_base.proofs.groups.Groups.{inverse_in-times}
+use Rattle.pq_base.proofs.groups.GroupIdentities.{conjugate_in-one, conjugate_in-times, conjugate_in-commutator, conjugate_in-power}
+use Rattle.pq_base.proofs.groups.GroupIdentities.{inverse_in-commutator_conjugate, inverse_in-power}
 
 -- a predicate that holds one and keeps products and inverses
 pub record IsClosed (G : Group) (V : G.carrier → Type 0) : Type 0 where

@@ -1,7 +1,8 @@
 -- A map between groups that keeps products carries each level of the lower series into the level of the same number, and
 -- onto it where every element is an image.
 use Rattle.std.proofs.Common.{ℕ, zero, suc}
-use Rattle.pq_base.proofs.groups.Groups.{Group, power_in, conjugate_in, commutator_in, times-same_left, times_in-cancel_left, inverse_in-unique, power_in-same, commutator_in-same}
+use Rattle.pq_base.proofs.groups.Groups.{Group, power_in, conjugate_in, commutator_in, times-same_left, times_in-cancel_left}
+use Rattle.pq_base.proofs.groups.Groups.{inverse_in-unique, power_in-same, commutator_in-same}
 use Rattle.pq_base.proofs.groups.GroupLevels.{IsClosed, NextIn, IsMade, InLevelIn, made-same, level-normal, next-inside}
 use Rattle.pq_base.proofs.groups.GroupLevels.NextIn.{no_factor, commutator_times, power_times}
 

@@ -30,7 +30,8 @@ module _ (G : Group) (M : G.carrier → Type 0) (n : IsNormalSet G M) where
 
   pub differ-trans : (x y z : G.carrier) → differ_by G M x y → differ_by G M y z → differ_by G M x z
   differ-trans x y z h i =
-      n.kept (by_reduction G (x ∷ y ∷ z ∷ []) (product (product (inverted (at 0)) (at 1)) (product (inverted (at 1)) (at 2))) (product (inverted (at 0)) (at 2)) refl)
+      n.kept (by_reduction G (x ∷ y ∷ z ∷ []) (product (product (inverted (at 0)) (at 1)) (product (inverted (at 1)) (at 2)))
+      (product (inverted (at 0)) (at 2)) refl)
       (n.times (G.times (G.inverse x) y) (G.times (G.inverse y) z) h i)
 
   pub differ-times : (x y u v : G.carrier) → differ_by G M x y → differ_by G M u v → differ_by G M (G.times x u) (G.times y v)
@@ -86,5 +87,6 @@ module _ (G : Group) (M : G.carrier → Type 0) (n : IsNormalSet G M) where
   differ-joined P f kills {u} {v} c =
       let at_relators : (r : List ℤ) → IsRelatorOf P r → differ_by G M (value_in quotient_group f r) G.one =
       λ r h. rw (value_in-quotient f r) (differ-one (value_in G f r) (kills r h)) in
-      let d : differ_by G M (value_in quotient_group f u) (value_in quotient_group f v) = value_in-joined quotient_group P f at_relators c in
+      let d : differ_by G M (value_in quotient_group f u) (value_in quotient_group f v) =
+      value_in-joined quotient_group P f at_relators c in
       rw (value_in-quotient f u, value_in-quotient f v) at d

@@ -1,10 +1,12 @@
 -- Two products that reduce freely to one word have one value in every group. So an identity of groups is proved by
 -- writing its sides as products of generators.
-use Rattle.std.proofs.Common.{◌≡◌, ℕ, zero, suc, Bool, true, false, eqb, ℤ, pos, negsuc, neg_ℤ, List, [], ◌∷◌, ◌++◌, get_or, refl, ap, sym, subst}
+use Rattle.std.proofs.Common.{◌≡◌, ℕ, zero, suc, Bool, true, false, eqb, ℤ, pos, negsuc, neg_ℤ, List, [], ◌∷◌, ◌++◌, get_or, refl, ap, sym}
+use Rattle.std.proofs.Common.{subst}
 use borrow.Author.Tests.{eqb-true}
 use Rattle.pq_base.specs.SignedWord.{inv}
 use Rattle.pq_base.specs.Presentation.{letter}
-use Rattle.pq_base.proofs.groups.Groups.{Group, element_in, value_in, same_from_equal, times-same_left, times_in-inverse-times, element_in-neg, value_in-append, value_in-inv, value_in-letter}
+use Rattle.pq_base.proofs.groups.Groups.{Group, element_in, value_in, same_from_equal, times-same_left, times_in-inverse-times}
+use Rattle.pq_base.proofs.groups.Groups.{element_in-neg, value_in-append, value_in-inv, value_in-letter}
 
 -- a product of the elements of a list; numbers count from 0
 pub data Product : Type 0 where

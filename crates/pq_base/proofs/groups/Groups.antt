@@ -124,10 +124,12 @@ module _ (G : Group) where
   value_in-copies f u zero = G.reflexive G.one
   value_in-copies f u (suc n) = G.transitive (value_in-append f u (copies u n)) (times-same_left (value_in G f u) (value_in-copies f u n))
 
-  pub value_in-conj : (f : List G.carrier) (u v : List ℤ) → G.same (value_in G f (conj u v)) (conjugate_in G (value_in G f u) (value_in G f v))
+  pub value_in-conj : (f : List G.carrier) (u v : List ℤ)
+      → G.same (value_in G f (conj u v)) (conjugate_in G (value_in G f u) (value_in G f v))
   value_in-conj f u v = G.transitive (value_in-append f (inv v) (u ++ v)) (G.times-same (value_in-inv f v) (value_in-append f u v))
 
-  pub value_in-comm : (f : List G.carrier) (u v : List ℤ) → G.same (value_in G f (comm u v)) (commutator_in G (value_in G f u) (value_in G f v))
+  pub value_in-comm : (f : List G.carrier) (u v : List ℤ)
+      → G.same (value_in G f (comm u v)) (commutator_in G (value_in G f u) (value_in G f v))
   value_in-comm f u v = G.transitive (value_in-append f (inv u) (conj u v)) (G.times-same (value_in-inv f u) (value_in-conj f u v))
 
   -- the value of a substituted word
@@ -176,7 +178,8 @@ module _ (G : Group) where
       at_insertion a x b e =
           G.transitive (value_in-append f a b)
           (G.transitive (times-same_left (value_in G f a)
-          (G.symmetric (G.transitive (value_in-append f x b) (G.transitive (times-same_right (value_in G f b) (kills x e)) (G.one_left (value_in G f b))))))
+          (G.symmetric (G.transitive (value_in-append f x b)
+          (G.transitive (times-same_right (value_in G f b) (kills x e)) (G.one_left (value_in G f b))))))
           (G.symmetric (value_in-append f a (x ++ b))))
 
   pub value_in-pair : (f : List G.carrier) (k : ℤ) → G.same (value_in G f (k ∷ neg_ℤ k ∷ [])) G.one

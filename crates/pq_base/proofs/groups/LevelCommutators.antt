@@ -106,7 +106,8 @@ module _ (G : Group) (p : ℕ) (V : G.carrier → Type 0) (closed : IsClosed G V
       x_in : V x
       x_in = inside a x at_a
 
-      power-up : (u : G.carrier) (n : ℕ) → InLevelIn G p V b u → UpTo (power_in G (commutator_in G x u) n) (commutator_in G x (power_in G u n))
+      power-up : (u : G.carrier) (n : ℕ) → InLevelIn G p V b u
+          → UpTo (power_in G (commutator_in G x u) n) (commutator_in G x (power_in G u n))
       power-up u zero h = up-same (by_reduction G (x ∷ []) unit (comm_of (at 0) unit) refl) (up-itself G.one)
       power-up u (suc n) h =
           let c = commutator_in G x u in
@@ -144,7 +145,8 @@ module _ (G : Group) (p : ℕ) (V : G.carrier → Type 0) (closed : IsClosed G V
           let c = commutator_in G x u in
           let u_in = inside b u h in
           up-same
-          (by_reduction G (x ∷ u ∷ []) (conj_of (inverted (comm_of (at 0) (at 1))) (inverted (at 1))) (comm_of (at 0) (inverted (at 1))) refl)
+          (by_reduction G (x ∷ u ∷ []) (conj_of (inverted (comm_of (at 0) (at 1))) (inverted (at 1)))
+          (comm_of (at 0) (inverted (at 1))) refl)
           (up-conj (G.inverse c) (G.inverse c) (G.inverse u) ((level-normal G p V closed m).inverse c (before u h)) (closed.inverse u u_in)
           (up-itself (G.inverse c)))
 
@@ -159,14 +161,16 @@ module _ (G : Group) (p : ℕ) (V : G.carrier → Type 0) (closed : IsClosed G V
           let start : UpTo (G.times c (G.inverse c)) (commutator_in G x (commutator_in G u z)) =
           up-same (G.symmetric (commutator_in-times_right G x (G.inverse u) w))
           (up-times c (G.inverse c) (commutator_in G x w) (conjugate_in G (commutator_in G x (G.inverse u)) w) back (conjugate-up u z h i)
-          (up-conj (G.inverse c) (commutator_in G x (G.inverse u)) w ((level-normal G p V closed m).inverse c (before u h)) w_in (inverse-up u h))) in
+          (up-conj (G.inverse c) (commutator_in G x (G.inverse u)) w ((level-normal G p V closed m).inverse c (before u h)) w_in
+          (inverse-up u h))) in
           up-level G.one (commutator_in G x (commutator_in G u z)) (closed-comm x (commutator_in G u z) x_in (closed-comm u z u_in i))
           (level-normal G p V closed (suc m)).one (up-same_left (G.inverse_right c) start)
 
       -- products of such factors
       factor-times : (y w : G.carrier) → V y → V w → M (commutator_in G x y) → M (commutator_in G x w) → M (commutator_in G x (G.times y w))
       factor-times y w h i k l =
-          level-same G p V closed m (G.times (commutator_in G x w) (conjugate_in G (commutator_in G x y) w)) (commutator_in G x (G.times y w))
+          level-same G p V closed m (G.times (commutator_in G x w) (conjugate_in G (commutator_in G x y) w))
+          (commutator_in G x (G.times y w))
           (G.symmetric (commutator_in-times_right G x y w)) (closed-comm x (G.times y w) x_in (closed.times y w h i))
           ((level-normal G p V closed (suc m)).times (commutator_in G x w) (conjugate_in G (commutator_in G x y) w) l
           ((level-normal G p V closed (suc m)).conjugate (commutator_in G x y) w k i))
@@ -212,4 +216,5 @@ commutators_of_levels P is a b x y h i =
     let one_more : suc (a + b) ≡ a + b + 1 = omega arith in
     subst (λ (k : ℕ). InSeries P k (comm x y)) one_more
     (series-from_level P (suc (a + b)) (comm x y)
-    (level-commutators (word_group P) P.prime (HasLetters P.rank) (HasLetters-closed P) b a x y (level-from_series P a x h) (level-from_series P b y i)))
+    (level-commutators (word_group P) P.prime (HasLetters P.rank) (HasLetters-closed P) b a x y (level-from_series P a x h)
+    (level-from_series P b y i)))

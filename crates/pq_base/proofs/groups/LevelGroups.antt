@@ -25,7 +25,8 @@ module _ (T : Table) (g : IsGroup T) (p k : ℕ) where
   abbrev zero_element : Element T
   zero_element = record { number = 0; below = g.nonempty }
 
-  get_or-numbers : (fs : List (Element T)) (i : ℕ) → (get_or fs i (record { number = 0; below = g.nonempty })).number ≡ get_or (numbers fs) i 0
+  get_or-numbers : (fs : List (Element T)) (i : ℕ)
+      → (get_or fs i (record { number = 0; below = g.nonempty })).number ≡ get_or (numbers fs) i 0
   get_or-numbers [] i = refl
   get_or-numbers (x ∷ fs) zero = refl
   get_or-numbers (x ∷ fs) (suc i) = get_or-numbers fs i
@@ -60,13 +61,15 @@ module _ (T : Table) (g : IsGroup T) (p c : ℕ) where
   pub level-central : (t x : Element T) → InLevel T p c t.number → Commute (level_group T g p (suc c)) t x
   level-central t x h =
       commute-from_commutator (level_group T g p (suc c)) t x
-      (level-same_one T g p (suc c) (commutator_in (level_group T g p (suc c)) t x) (table_level-commutator T g p c t.number x.number h x.below))
+      (level-same_one T g p (suc c) (commutator_in (level_group T g p (suc c)) t x)
+      (table_level-commutator T g p c t.number x.number h x.below))
 
   power_in-number : (t : Element T) (n : ℕ) → (power_in (level_group T g p (suc c)) t n).number ≡ power T t.number n
   power_in-number t zero = refl
   power_in-number t (suc n) = ap (times T t.number) (power_in-number t n)
 
-  pub level-order : (t : Element T) → InLevel T p c t.number → (level_group T g p (suc c)).same (power_in (level_group T g p (suc c)) t p) (level_group T g p (suc c)).one
+  pub level-order : (t : Element T) → InLevel T p c t.number
+      → (level_group T g p (suc c)).same (power_in (level_group T g p (suc c)) t p) (level_group T g p (suc c)).one
   level-order t h =
       level-same_one T g p (suc c) (power_in (level_group T g p (suc c)) t p)
       (subst (λ (n : ℕ). InLevel T p (suc c) n) (sym (power_in-number t p)) (table_level-power T g p c t.number h))

@@ -4,7 +4,8 @@ use Rattle.std.proofs.Common.{◌≡◌, ℕ, zero, suc, ◌<◌, ℤ, pos, negs
 use Rattle.pq_base.specs.SignedWord.{HasLetters}
 use Rattle.pq_base.specs.Table.{Table, IsGroup, AllBelow, times, inverse, element_of, value}
 use Rattle.pq_base.specs.Largest.{IsHomomorphism}
-use Rattle.pq_base.proofs.tables.TableLaws.{times-inverse, inverse-below, inverse-unique, times-cancel_left, get_or-below, element-below, value-below}
+use Rattle.pq_base.proofs.tables.TableLaws.{times-inverse, inverse-below, inverse-unique, times-cancel_left, get_or-below, element-below}
+use Rattle.pq_base.proofs.tables.TableLaws.{value-below}
 
 module _ (T U : Table) (g : IsGroup T) (k : IsGroup U) (h : List ℕ) (is : IsHomomorphism T U h) where
   pub homomorphism-below : (a : ℕ) → get_or h a 0 < U.size

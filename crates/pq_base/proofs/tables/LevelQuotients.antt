@@ -12,7 +12,8 @@ use Rattle.pq_base.proofs.groups.LevelGroups.{level_group, numbers-elements, val
 use Rattle.pq_base.proofs.tables.TableGroup.{Element, table_group, elements}
 use Rattle.pq_base.proofs.tables.TableSeries.{IsAny, IsAny-closed, level_from_table_group}
 use Rattle.pq_base.proofs.tables.TableQuotients.{in_level, in_level-normal}
-use Rattle.pq_base.proofs.tables.NumberedGroups.{IsNumbered, IsAnyIn, numbered_table, numbered-is_group, value-of_numbers, numbers-below, one-from_number, numbered-class}
+use Rattle.pq_base.proofs.tables.NumberedGroups.{IsNumbered, IsAnyIn, numbered_table, numbered-is_group, value-of_numbers, numbers-below}
+use Rattle.pq_base.proofs.tables.NumberedGroups.{one-from_number, numbered-class}
 use Rattle.pq_base.proofs.tables.Numberings.{IsListed, listed_number, listed-is_numbered, quotient-listed}
 
 -- a group table of class at most k, with elements at which exactly the words of level k have value 0
@@ -37,7 +38,8 @@ module _ (T : Table) (g : IsGroup T) (p k : ℕ) where
         times = λ y z. G.reflexive ((table_group T g).times y z);
       } in
       let r =
-      level-reached (table_group T g) G (λ (y : Element T). y) to p (IsAny T) (IsAnyIn G) (IsAny-closed T g) (λ y t. (y, tt, G.reflexive y)) k x h in
+      level-reached (table_group T g) G (λ (y : Element T). y) to p (IsAny T) (IsAnyIn G) (IsAny-closed T g)
+      (λ y t. (y, tt, G.reflexive y)) k x h in
       G.transitive {x = x} {y = r.0} {z = G.one} (G.symmetric {x = r.0} {y = x} r.2)
       (level-same_one T g p k r.0 (level_from_table_group T g p k r.0 r.1))
 

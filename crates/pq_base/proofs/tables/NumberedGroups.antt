@@ -1,6 +1,7 @@
 -- A group up to an equivalence whose elements are numbered, with one number for elements that are the same, is a group table:
 -- the value of a word there is the number of its value, and the table has each class that the group has.
-use Rattle.std.proofs.Common.{◌≡◌, ℕ, zero, suc, ◌<◌, ℤ, pos, negsuc, List, [], ◌∷◌, get_or, length, map, refl, ap, ap₂, sym, ◌∙◌, subst, arith}
+use Rattle.std.proofs.Common.{◌≡◌, ℕ, zero, suc, ◌<◌, ℤ, pos, negsuc, List, [], ◌∷◌, get_or, length, map, refl, ap, ap₂, sym, ◌∙◌, subst}
+use Rattle.std.proofs.Common.{arith}
 use Rattle.std.proofs.lemmas.List.{length-map, get_or-map}
 use Rattle.pq_base.specs.Table.{Table, IsGroup, AllBelow, HasTableClass, times, inverse, element_of, value}
 use Rattle.pq_base.proofs.groups.Groups.{Group, element_in, value_in, same_from_equal}

@@ -1,6 +1,7 @@
 -- The elements of a group table, up to an equivalence that can be decided, are numbered: each is listed in turn where it is the
 -- same as none that was listed before, the neutral one first.
-use Rattle.std.proofs.Common.{◌≡◌, ◌⊎◌, ℕ, zero, suc, ◌<◌, ◌≤◌, List, [], ◌∷◌, ◌++◌, get_or, length, refl, sym, ◌∙◌, subst, arith, length-append, inl, inr}
+use Rattle.std.proofs.Common.{◌≡◌, ◌⊎◌, ℕ, zero, suc, ◌<◌, ◌≤◌, List, [], ◌∷◌, ◌++◌, get_or, length, refl, sym, ◌∙◌, subst, arith}
+use Rattle.std.proofs.Common.{length-append, inl, inr}
 use Rattle.std.proofs.lemmas.List.{get_or_push, get_or_append_left}
 use Rattle.std.proofs.lemmas.Bool.{cases_lt}
 use Rattle.pq_base.specs.Table.{Table, IsGroup}
@@ -160,7 +161,8 @@ module _ (G : Group) (part : G.carrier → Type 0) (listed : IsListed G part) (a
   }
 
 -- the elements of a table modulo a normal set
-module _ (T : Table) (g : IsGroup T) (M : Element T → Type 0) (n : IsNormalSet (table_group T g) M) (decided : (x : Element T) → M x ⊎ ¬ M x) where
+module _ (T : Table) (g : IsGroup T) (M : Element T → Type 0) (n : IsNormalSet (table_group T g) M)
+    (decided : (x : Element T) → M x ⊎ ¬ M x) where
   abbrev G : Group
   G = quotient_group (table_group T g) M n
 
@@ -171,7 +173,8 @@ module _ (T : Table) (g : IsGroup T) (M : Element T → Type 0) (n : IsNormalSet
   listed_up_to zero l =
       listed-one G (λ x y. decided (G.times (G.inverse x) y)) (IsBefore 0) (λ x h. absurd (omega arith))
   listed_up_to (suc k) l =
-      listed-more G (λ x y. decided (G.times (G.inverse x) y)) (IsBefore k) (listed_up_to k (omega arith)) (element T k (omega arith)) (IsBefore (suc k))
+      listed-more G (λ x y. decided (G.times (G.inverse x) y)) (IsBefore k) (listed_up_to k (omega arith)) (element T k (omega arith))
+      (IsBefore (suc k))
       (λ y h. elim (cases_lt y.number k) [
         | inl before ↦ inl before
         | inr after ↦

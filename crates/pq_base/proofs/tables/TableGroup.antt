@@ -8,7 +8,8 @@ use Rattle.pq_base.specs.Table.{Table, IsGroup, AllBelow, times, inverse, elemen
 use Rattle.pq_base.specs.Presentation.{Presentation, IsRelatorOf, letter}
 use Rattle.pq_base.specs.Joined.{Chain, Joined}
 use Rattle.pq_base.specs.Laws.{JoinedWordsHaveEqualValues}
-use Rattle.pq_base.proofs.groups.Groups.{Group, element_in, value_in, power_in, value_in-append, value_in-inv, value_in-copies, value_in-comm, value_in-chain, value_in-joined}
+use Rattle.pq_base.proofs.groups.Groups.{Group, element_in, value_in, power_in, value_in-append, value_in-inv, value_in-copies}
+use Rattle.pq_base.proofs.groups.Groups.{value_in-comm, value_in-chain, value_in-joined}
 use Rattle.pq_base.proofs.tables.TableLaws.{times-inverse, inverse-times, inverse-below, get_or-below}
 
 -- an element of a table
@@ -103,7 +104,8 @@ module _ (T : Table) (g : IsGroup T) where
         ∙ ap (times T (element_of T (map (value T f) s) k)) (value-sub w s)
 
     -- chains and joined words
-    pub value-chain : (E : List ℤ → Type 0) → ((x : List ℤ) → E x → value T f x ≡ 0) → {u v : List ℤ} → Chain E u v → value T f u ≡ value T f v
+    pub value-chain : (E : List ℤ → Type 0) → ((x : List ℤ) → E x → value T f x ≡ 0) → {u v : List ℤ} → Chain E u v
+        → value T f u ≡ value T f v
     value-chain E kills {u} {v} c =
         sym (value_in-table_group f h u)
         ∙ value_in-chain (table_group T g) E (elements T f h) (λ x e. value_in-table_group f h x ∙ kills x e) c

@@ -1,5 +1,6 @@
 -- In a group table the first place of 0 in a row is the inverse on both sides, and products cancel.
-use Rattle.std.proofs.Common.{◌≡◌, ℕ, zero, suc, ◌+◌, ◌*◌, ◌<◌, ℤ, pos, negsuc, List, [], ◌∷◌, get_or, length, refl, ap, sym, ◌∙◌, add-one, arith}
+use Rattle.std.proofs.Common.{◌≡◌, ℕ, zero, suc, ◌+◌, ◌*◌, ◌<◌, ℤ, pos, negsuc, List, [], ◌∷◌, get_or, length, refl, ap, sym, ◌∙◌, add-one}
+use Rattle.std.proofs.Common.{arith}
 use Rattle.std.proofs.Math.Nat.{zero-add, suc-add, mul-zero, mul-suc}
 use Rattle.pq_base.specs.Table.{Table, IsGroup, AllBelow, times, place_of_zero, inverse, element_of, value, power, commutator}
 
@@ -76,7 +77,8 @@ pub inverse-of_times : (T : Table) → IsGroup T → (a b : ℕ) → a < T.size 
 inverse-of_times T g a b l m =
     let i = inverse-below T g a l in
     let j = inverse-below T g b m in
-    sym (inverse-unique T g (times T a b) (times T (inverse T b) (inverse T a)) (g.closed a b l m) (g.closed (inverse T b) (inverse T a) j i)
+    sym (inverse-unique T g (times T a b) (times T (inverse T b) (inverse T a)) (g.closed a b l m)
+    (g.closed (inverse T b) (inverse T a) j i)
     (g.associative a b (times T (inverse T b) (inverse T a)) l m (g.closed (inverse T b) (inverse T a) j i)
     ∙ ap (times T a) (times-inverse-times T g b (inverse T a) m i) ∙ times-inverse T a))
 

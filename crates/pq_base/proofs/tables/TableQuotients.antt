@@ -22,10 +22,12 @@ module _ (T : Table) (g : IsGroup T) (p k : ℕ) where
     conjugate = λ x y h. table_level-conjugate T g p k x.number y.number h y.below;
   }
 
-  pub table_level-joined : (P : Presentation) (f : List ℕ) → AllBelow T.size f → ((r : List ℤ) → IsRelatorOf P r → InLevel T p k (value T f r))
+  pub table_level-joined : (P : Presentation) (f : List ℕ) → AllBelow T.size f
+      → ((r : List ℤ) → IsRelatorOf P r → InLevel T p k (value T f r))
       → {u v : List ℤ} → Joined P u v → InLevel T p k (times T (inverse T (value T f u)) (value T f v))
   table_level-joined P f h kills {u} {v} c =
-      let d : InLevel T p k (times T (inverse T (value_in (table_group T g) (elements T f h) u).number) (value_in (table_group T g) (elements T f h) v).number) =
+      let d : InLevel T p k (times T (inverse T (value_in (table_group T g) (elements T f h) u).number)
+      (value_in (table_group T g) (elements T f h) v).number) =
       differ-joined (table_group T g) in_level in_level-normal P (elements T f h)
       (λ r i. subst (λ (x : ℕ). InLevel T p k x) (sym (value_in-table_group T g f h r)) (kills r i)) c in
       rw (value_in-table_group T g f h u, value_in-table_group T g f h v) at d

@@ -6,7 +6,10 @@ use Rattle.pq_base.specs.Answer.Definition.{image, commutator, power}
 use Rattle.pq_base.proofs.vectors.Tests.{unequal}
 use Rattle.pq_base.proofs.vectors.LPresentations.{x_and_y, are_x_and_y_distinct}
 use Rattle.pq_base.proofs.vectors.LargestQuotients.{x_name, trivial_answer}
-use Rattle.pq_base.proofs.vectors.Presentations.{order_two, order_two_is_presentation, dihedral_of_order_eight, dihedral_of_order_eight_is_presentation, dihedral_of_order_sixteen, dihedral_of_order_sixteen_is_presentation, quaternion, quaternion_is_presentation, cycle_of_nine, cycle_of_nine_is_presentation}
+use Rattle.pq_base.proofs.vectors.Presentations.{order_two, order_two_is_presentation, dihedral_of_order_eight}
+use Rattle.pq_base.proofs.vectors.Presentations.{dihedral_of_order_eight_is_presentation, dihedral_of_order_sixteen}
+use Rattle.pq_base.proofs.vectors.Presentations.{dihedral_of_order_sixteen_is_presentation, quaternion, quaternion_is_presentation}
+use Rattle.pq_base.proofs.vectors.Presentations.{cycle_of_nine, cycle_of_nine_is_presentation}
 
 -- a1 from the image of x
 abbrev pub answer_of_order_two : Answer

@@ -6,7 +6,8 @@ use Rattle.pq_base.specs.Canonical.{want_order, up_to_class, AreMet, ObeysWeight
 use Rattle.pq_base.proofs.vectors.Tests.{differ, unequal}
 use Rattle.pq_base.proofs.vectors.CanonicalTests.{tested_none, tested_weights, other-definition}
 use Rattle.pq_base.proofs.vectors.LargestQuotients.{trivial_answer}
-use Rattle.pq_base.proofs.vectors.Answers.{answer_of_order_eight, answer_of_order_sixteen, order_sixteen_is_answer, answer_of_quaternion, answer_of_cycle}
+use Rattle.pq_base.proofs.vectors.Answers.{answer_of_order_eight, answer_of_order_sixteen, order_sixteen_is_answer, answer_of_quaternion}
+use Rattle.pq_base.proofs.vectors.Answers.{answer_of_cycle}
 
 -- an answer of class 0 has nothing to meet
 pub trivial_is_canonical : IsCanonical trivial_answer

@@ -1,5 +1,6 @@
 -- Tests that compute for canonical answers: weights of right sides, and entries that define no new generator.
-use Rattle.std.proofs.Common.{◌≡◌, ◌≢◌, ◌≤◌, ◌+◌, ℕ, zero, suc, Bool, true, false, ◌&&◌, ◌||◌, not, eqb, leb, List, [], ◌∷◌, get_or, refl, sym, ap, ◌∙◌, subst, arith, eqb-true, leb-true, eq-eqb}
+use Rattle.std.proofs.Common.{◌≡◌, ◌≢◌, ◌≤◌, ◌+◌, ℕ, zero, suc, Bool, true, false, ◌&&◌, ◌||◌, not, eqb, leb, List, [], ◌∷◌, get_or, refl}
+use Rattle.std.proofs.Common.{sym, ap, ◌∙◌, subst, arith, eqb-true, leb-true, eq-eqb}
 use Rattle.pq_base.specs.Presentation.{power_side, commutator_side}
 use Rattle.pq_base.specs.Answer.{Answer, Definition, weight_at, definition_at}
 use Rattle.pq_base.specs.Answer.Definition.{image, commutator, power}

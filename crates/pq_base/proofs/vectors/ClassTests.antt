@@ -52,7 +52,8 @@ module _ (T : Table) (g : IsGroup T) (p : ℕ) (before after : ℕ → Bool) (h 
   tested_level k low x (times_power u y hu hy) =
       let below = table_level-below T g p k u hu in
       product-passes (power T u p) y (power-below T g u p below) (table_level-below T g p (suc k) y hy)
-      (implied (before u) (after (power T u p)) (at-below T.size (λ a. implies (before a) (after (power T a p))) h.powers u below) (low u hu))
+      (implied (before u) (after (power T u p)) (at-below T.size (λ a. implies (before a) (after (power T a p))) h.powers u below)
+      (low u hu))
       (tested_level k low y hy)
 
 -- the test of the neutral element alone
@@ -60,7 +61,8 @@ pub class_from_level : (T : Table) (p c : ℕ) → ((x : ℕ) → InLevel T p c 
 class_from_level T p c h x l = eqb-true x 0 (h x l)
 
 -- the class of the table, for a presentation that the table shows to be consistent
-pub class_from_table : {P : Presentation} {passes : ℕ} {T : Table} {f : List ℕ} {exponents : ℕ → List ℕ} → PassesConsistent P passes T f exponents
+pub class_from_table : {P : Presentation} {passes : ℕ} {T : Table} {f : List ℕ} {exponents : ℕ → List ℕ}
+    → PassesConsistent P passes T f exponents
     → (c : ℕ) → HasTableClass T P.prime c → normal_word (exponents 0) ≡ [] → HasClass P c
 class_from_table {P} {passes} {T} {f} {exponents} h c class empty w l =
     let neutral : value T f w ≡ 0 =

@@ -1,13 +1,15 @@
 -- A closed presentation is consistent where the rules bring each letter before a normal word to a normal word, and where
 -- a table tells the normal words apart.
-use Rattle.std.proofs.Common.{◌≡◌, ◌&&◌, ℕ, zero, suc, pred, ℤ, pos, negsuc, Bool, true, false, List, [], ◌∷◌, length, refl, sym, ap, ◌∙◌, subst, arith}
+use Rattle.std.proofs.Common.{◌≡◌, ◌&&◌, ℕ, zero, suc, pred, ℤ, pos, negsuc, Bool, true, false, List, [], ◌∷◌, length, refl, sym, ap, ◌∙◌}
+use Rattle.std.proofs.Common.{subst, arith}
 use Rattle.pq_base.specs.SignedWord.{IsLetter, HasLetters}
 use Rattle.pq_base.specs.Table.{Table, IsGroup, AllBelow, value}
 use Rattle.pq_base.specs.Presentation.{Presentation, IsNormal, normal_word}
 use Rattle.pq_base.specs.Joined.{Joined, Reaches, IsConsistent}
 use Rattle.pq_base.proofs.words.JoinedLaws.{joined-trans, joined-append_left, joined-from_equal}
 use Rattle.pq_base.proofs.tables.TableGroup.{value-joined}
-use Rattle.pq_base.proofs.vectors.Tests.{same_list, same_list-true, differ, both, passes_below, at-below, are_below, tested_below, tested_relators, are_power_values_neutral, are_commutator_values_neutral}
+use Rattle.pq_base.proofs.vectors.Tests.{same_list, same_list-true, differ, both, passes_below, at-below, are_below, tested_below}
+use Rattle.pq_base.proofs.vectors.Tests.{tested_relators, are_power_values_neutral, are_commutator_values_neutral}
 use Rattle.pq_base.proofs.vectors.Rewriting.{same_letter, same_letter-true, reduce, reduce-joined, all_rules, all-rules-joined}
 
 -- the test passes at each list of n numbers below p
@@ -139,13 +141,15 @@ read_back {P} {passes} {T} {f} {exponents} h e n =
     (at-list P.prime P.rank (λ x. same_list (exponents (value T f (normal_word x))) x) h.told e n)
 
 -- joined words have equal values
-pub values_joined : {P : Presentation} {passes : ℕ} {T : Table} {f : List ℕ} {exponents : ℕ → List ℕ} → PassesConsistent P passes T f exponents
+pub values_joined : {P : Presentation} {passes : ℕ} {T : Table} {f : List ℕ} {exponents : ℕ → List ℕ}
+    → PassesConsistent P passes T f exponents
     → {u v : List ℤ} → Joined P u v → value T f u ≡ value T f v
 values_joined {P} {passes} {T} {f} h c =
     value-joined T h.group f h.elements P (tested_relators T f P h.powers h.commutators) c
 
 -- a presentation that passes is consistent
-pub tested_consistent : {P : Presentation} {passes : ℕ} {T : Table} {f : List ℕ} {exponents : ℕ → List ℕ} → PassesConsistent P passes T f exponents
+pub tested_consistent : {P : Presentation} {passes : ℕ} {T : Table} {f : List ℕ} {exponents : ℕ → List ℕ}
+    → PassesConsistent P passes T f exponents
     → IsConsistent P
 tested_consistent {P} {passes} {T} {f} {exponents} h = record {
   unique = λ e g he hg c. sym (read_back h e he) ∙ ap exponents (values_joined h c) ∙ read_back h g hg;
@@ -153,7 +157,8 @@ tested_consistent {P} {passes} {T} {f} {exponents} h = record {
 }
 
 -- a word over the generators is joined to the normal word of the exponents that its value is read as
-pub joined-to_value : {P : Presentation} {passes : ℕ} {T : Table} {f : List ℕ} {exponents : ℕ → List ℕ} → PassesConsistent P passes T f exponents
+pub joined-to_value : {P : Presentation} {passes : ℕ} {T : Table} {f : List ℕ} {exponents : ℕ → List ℕ}
+    → PassesConsistent P passes T f exponents
     → (w : List ℤ) → HasLetters P.rank w → Joined P w (normal_word (exponents (value T f w)))
 joined-to_value {P} {passes} {T} {f} {exponents} h w l =
     let r = tested_reached P passes h.prime h.reached h.empty w l in

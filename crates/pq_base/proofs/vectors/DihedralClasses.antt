@@ -8,7 +8,8 @@ use Rattle.pq_base.proofs.vectors.Tests.{unequal}
 use Rattle.pq_base.proofs.vectors.Presentations.{dihedral_of_order_eight, dihedral_of_order_sixteen}
 use Rattle.pq_base.proofs.vectors.DihedralTable.{eight_elements, eight_elements_are_group}
 use Rattle.pq_base.proofs.vectors.ConsistentTests.{values_joined}
-use Rattle.pq_base.proofs.vectors.ConsistentPresentations.{order_eight_passes, order_sixteen_passes, sixteen_elements, sixteen_elements_are_group}
+use Rattle.pq_base.proofs.vectors.ConsistentPresentations.{order_eight_passes, order_sixteen_passes, sixteen_elements}
+use Rattle.pq_base.proofs.vectors.ConsistentPresentations.{sixteen_elements_are_group}
 use Rattle.pq_base.proofs.vectors.ClassTests.{tested_level, class_from_level, class_from_table}
 
 -- level 1 has a3 and its powers alone

@@ -56,7 +56,8 @@ pub relators_have_value_zero : (r : List ℤ) → IsRelatorOf dihedral_of_order_
 relators_have_value_zero = tested_relators eight_elements generators dihedral_of_order_eight refl refl
 
 -- so joined words have equal values
-pub values_of_joined : {u v : List ℤ} → Joined dihedral_of_order_eight u v → value eight_elements generators u ≡ value eight_elements generators v
+pub values_of_joined : {u v : List ℤ} → Joined dihedral_of_order_eight u v
+    → value eight_elements generators u ≡ value eight_elements generators v
 values_of_joined c =
     value-joined eight_elements eight_elements_are_group generators generators_below dihedral_of_order_eight relators_have_value_zero c
 

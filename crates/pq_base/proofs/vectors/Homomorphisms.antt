@@ -8,7 +8,8 @@ use Rattle.pq_base.specs.Table.{Table, IsGroup, HasTableClass, times, value}
 use Rattle.pq_base.specs.Largest.{IsHomomorphism, Carries, HasValue, HasOrder}
 use Rattle.pq_base.proofs.tables.TableLaws.{get_or-below}
 use Rattle.pq_base.proofs.vectors.Tests.{unequal, tested_class_one}
-use Rattle.pq_base.proofs.vectors.Tables.{one_element, one_element_is_group, two_elements, two_elements_are_group, two_elements_have_class_one, cycle_of_four}
+use Rattle.pq_base.proofs.vectors.Tables.{one_element, one_element_is_group, two_elements, two_elements_are_group}
+use Rattle.pq_base.proofs.vectors.Tables.{two_elements_have_class_one, cycle_of_four}
 use Rattle.pq_base.proofs.vectors.LargestQuotients.{killed_generator, free_generator, killed-element, one_obeys_nothing}
 
 -- 1 to 2 is a homomorphism of the group of two elements into the cycle of four
@@ -110,7 +111,8 @@ pub free_generator_has_not_order_one : HasOrder free_generator 2 1 0 → ⊥
 free_generator_has_not_order_one o =
     let c = o.universal two_elements (1 ∷ []) two_elements_are_group two_elements_have_class_one one_obeys_nothing in
     let named : 0 < length o.images = omega (arith, o.obeys.count) in
-    let first = only-element o.table o.size (get_or o.images 0 0) (get_or-below o.table.size o.images 0 o.group.nonempty o.obeys.elements) in
+    let first =
+    only-element o.table o.size (get_or o.images 0 0) (get_or-below o.table.size o.images 0 o.group.nonempty o.obeys.elements) in
     let one = ap (λ (x : ℕ). get_or c.map x 0) (sym first) ∙ c.carries 0 named in
     let square = sym (ap (λ (x : ℕ). get_or c.map x 0) (o.group.neutral_left 0 o.group.nonempty))
     ∙ c.homomorphism.products 0 0 o.group.nonempty o.group.nonempty in

@@ -78,7 +78,8 @@ iterated_is_relator = iterated_relator [] 0 tt (lit< tt)
 
 -- [a,a^u] along the endomorphism is [a,a^(u t)]
 pub iterated_along_is_relator
-    : IsRelator lamplighter (negsuc 0 ∷ negsuc 1 ∷ negsuc 2 ∷ negsuc 0 ∷ pos 3 ∷ pos 2 ∷ pos 1 ∷ negsuc 1 ∷ negsuc 2 ∷ pos 1 ∷ pos 3 ∷ pos 2 ∷ [])
+    : IsRelator lamplighter (negsuc 0 ∷ negsuc 1 ∷ negsuc 2 ∷ negsuc 0 ∷ pos 3 ∷ pos 2 ∷ pos 1 ∷ negsuc 1 ∷ negsuc 2 ∷ pos 1 ∷ pos 3 ∷ pos 2
+    ∷ [])
 iterated_along_is_relator = iterated_relator (1 ∷ []) 1 (lit< tt, tt) (lit< tt)
 
 -- y^2, along the swap

@@ -1,6 +1,8 @@
 -- The dihedral answer of order eight is the largest quotient of class 2, at the prime 2, of the group of two generators
--- whose squares are relators; and it is that where one square is an iterated relator and an endomorphism swaps them. It is not that of class 3.
-use Rattle.std.proofs.Common.{◌≡◌, ◌<◌, ◌++◌, ℕ, zero, suc, ℤ, pos, negsuc, List, [], ◌∷◌, length, get_or, refl, sym, ap, ◌∙◌, subst, lit<, lit≤, arith}
+-- whose squares are relators; and it is that where one square is an iterated relator and an endomorphism swaps them. It is not that of
+-- class 3.
+use Rattle.std.proofs.Common.{◌≡◌, ◌<◌, ◌++◌, ℕ, zero, suc, ℤ, pos, negsuc, List, [], ◌∷◌, length, get_or, refl, sym, ap, ◌∙◌, subst, lit<}
+use Rattle.std.proofs.Common.{lit≤, arith}
 use Rattle.pq_base.specs.SignedWord.{comm}
 use Rattle.pq_base.specs.LPresentation.{IsRelator, Obeys}
 use Rattle.pq_base.specs.LPresentation.IsRelator.{fixed_relator, iterated_relator}
@@ -49,7 +51,10 @@ module _ (T : Table) (g : IsGroup T) (class : HasTableClass T 2 2) (f : List ℕ
   through = get_or f 0 0 ∷ get_or f 1 0 ∷ third ∷ []
 
   through-below : AllBelow T.size through
-  through-below = (get_or-below T.size f 0 g.nonempty below, (get_or-below T.size f 1 g.nonempty below, (value-below T g f below swapped_commutator, tt)))
+  through-below = (
+    get_or-below T.size f 0 g.nonempty below,
+    (get_or-below T.size f 1 g.nonempty below, (value-below T g f below swapped_commutator, tt)),
+  )
 
   letter-value : (i : ℕ) → times T (get_or through i 0) 0 ≡ get_or through i 0
   letter-value i = g.neutral_right (get_or through i 0) (get_or-below T.size through i g.nonempty through-below)

@@ -59,7 +59,8 @@ order_two_is_universal T f g c o =
       };
       only = λ h fits.
           one-entry T h fits.count
-          ∙ ap (λ (x : ℕ). x ∷ []) (sym (g.neutral_right (get_or h 0 0) (get_or-below T.size h 0 g.nonempty fits.elements)) ∙ fits.images 0 (lit< tt))
+          ∙ ap (λ (x : ℕ). x ∷ [])
+          (sym (g.neutral_right (get_or h 0 0) (get_or-below T.size h 0 g.nonempty fits.elements)) ∙ fits.images 0 (lit< tt))
           ∙ sym (one-entry T f o.count);
     }
 

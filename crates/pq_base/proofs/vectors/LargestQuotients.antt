@@ -1,7 +1,8 @@
 -- The trivial answer is the largest quotient of the group with one generator that is a relator, at every class and
 -- prime 2, and at class 0 of the free group of rank 1. At class 1 it is not, as that group maps onto the group of two
 -- elements.
-use Rattle.std.proofs.Common.{◌≡◌, ◌<◌, ℕ, zero, suc, ℤ, pos, negsuc, List, [], ◌∷◌, length, get_or, refl, sym, ◌∙◌, lit<, lit≤, zero-le, arith}
+use Rattle.std.proofs.Common.{◌≡◌, ◌<◌, ℕ, zero, suc, ℤ, pos, negsuc, List, [], ◌∷◌, length, get_or, refl, sym, ◌∙◌, lit<, lit≤, zero-le}
+use Rattle.std.proofs.Common.{arith}
 use Rattle.pq_base.specs.SignedWord.{HasLetters}
 use Rattle.pq_base.specs.LPresentation.{LPresentation, IsRelator, Obeys}
 use Rattle.pq_base.specs.LPresentation.IsRelator.{fixed_relator, iterated_relator}

@@ -33,7 +33,8 @@ one-below = (lit< tt, tt)
 
 -- joined words have equal values
 pub parity-joined : {u v : List ℤ} → Joined order_two u v → parity u ≡ parity v
-parity-joined c = value-joined two_elements two_elements_are_group (1 ∷ []) one-below order_two (λ r h. ap parity (relator_of_order_two r h)) c
+parity-joined c =
+    value-joined two_elements two_elements_are_group (1 ∷ []) one-below order_two (λ r h. ap parity (relator_of_order_two r h)) c
 
 -- a value is 0 or 1
 pub parity-below : (w : List ℤ) → parity w < 2

@@ -1,11 +1,13 @@
 -- The relations of a presentation as rules from left to right. A word is joined to what the rules make of it, so that a
 -- closed word is brought to its normal word by `refl`.
-use Rattle.std.proofs.Common.{◌≡◌, ◌<◌, ◌++◌, ◌&&◌, ℕ, zero, suc, pred, ℤ, pos, negsuc, Bool, true, false, eqb, List, [], ◌∷◌, length, drop, refl, sym, ap, ◌∙◌, subst, arith, eqb-true}
+use Rattle.std.proofs.Common.{◌≡◌, ◌<◌, ◌++◌, ◌&&◌, ℕ, zero, suc, pred, ℤ, pos, negsuc, Bool, true, false, eqb, List, [], ◌∷◌, length, drop}
+use Rattle.std.proofs.Common.{refl, sym, ap, ◌∙◌, subst, arith, eqb-true}
 use Rattle.pq_base.specs.SignedWord.{inv, copies}
 use Rattle.pq_base.specs.Presentation.{Presentation, letter, power_word, commutator_word}
 use Rattle.pq_base.specs.Joined.{Joined}
 use Rattle.pq_base.specs.Joined.Chain.{done}
-use Rattle.pq_base.proofs.words.JoinedLaws.{joined-trans, joined-sym, joined-from_equal, joined-append_left, joined-append_right, joined-solve_right, append-append-inv-joined, power-joined, letter-swap-joined}
+use Rattle.pq_base.proofs.words.JoinedLaws.{joined-trans, joined-sym, joined-from_equal, joined-append_left, joined-append_right}
+use Rattle.pq_base.proofs.words.JoinedLaws.{joined-solve_right, append-append-inv-joined, power-joined, letter-swap-joined}
 use Rattle.pq_base.proofs.vectors.Tests.{differ, both}
 
 pub record Rule : Type 0 where
@@ -123,13 +125,15 @@ module _ (P : Presentation) where
   abbrev pub all_rules : List Rule
   all_rules = rules_up_to P.rank ++ swaps_up_to P.rank
 
-  inverse-rule-joined : suc (pred P.prime) ≡ P.prime → (i : ℕ) → i < P.rank → Joined P (negsuc i ∷ []) (copies (letter i) (pred P.prime) ++ inv (power_word P i))
+  inverse-rule-joined : suc (pred P.prime) ≡ P.prime → (i : ℕ) → i < P.rank
+      → Joined P (negsuc i ∷ []) (copies (letter i) (pred P.prime) ++ inv (power_word P i))
   inverse-rule-joined e i h =
       let power : Joined P (letter i ++ copies (letter i) (pred P.prime)) (power_word P i) =
       subst (λ (m : ℕ). Joined P (copies (letter i) m) (power_word P i)) (sym e) (power-joined P i h) in
       let rest : Joined P (copies (letter i) (pred P.prime)) ((negsuc i ∷ []) ++ power_word P i) =
       joined-solve_right (letter i) (copies (letter i) (pred P.prime)) power in
-      joined-sym (joined-trans (joined-append_right (inv (power_word P i)) rest) (append-append-inv-joined P (negsuc i ∷ []) (power_word P i)))
+      joined-sym (joined-trans (joined-append_right (inv (power_word P i)) rest)
+      (append-append-inv-joined P (negsuc i ∷ []) (power_word P i)))
 
   rules-joined : suc (pred P.prime) ≡ P.prime → (n : ℕ) → (i : ℕ) → i < suc n → n < suc P.rank → AreJoined P (rules_up_to i)
   rules-joined e n zero h l = tt
@@ -143,7 +147,8 @@ module _ (P : Presentation) where
   swaps-joined : (j : ℕ) → j < suc P.rank → AreJoined P (swaps_up_to j)
   swaps-joined zero h = tt
   swaps-joined (suc j) h =
-      are-joined-append (swaps_of j j) (swaps_up_to j) (swaps-of-joined j (omega (arith, h)) j (omega arith)) (swaps-joined j (omega (arith, h)))
+      are-joined-append (swaps_of j j) (swaps_up_to j) (swaps-of-joined j (omega (arith, h)) j (omega arith))
+      (swaps-joined j (omega (arith, h)))
 
   -- the sides of each rule are joined
   pub all-rules-joined : suc (pred P.prime) ≡ P.prime → AreJoined P all_rules

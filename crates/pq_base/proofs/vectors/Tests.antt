@@ -1,8 +1,11 @@
 -- A test that computes settles a fact on all numbers below a bound. So a closed table or answer is judged by `refl`.
-use Rattle.std.proofs.Common.{◌≡◌, ◌<◌, ◌+◌, ℕ, zero, suc, Bool, true, false, ◌&&◌, not, T, eqb, leb, ltb, List, [], ◌∷◌, ◌++◌, ℤ, length, get_or, refl, sym, ap, ◌∙◌, subst, inl, inr, eq-or-lt_of_le, le_of_suc-le-suc, arith, eqb-true, eq-eqb, ltb-true}
+use Rattle.std.proofs.Common.{◌≡◌, ◌<◌, ◌+◌, ℕ, zero, suc, Bool, true, false, ◌&&◌, not, T, eqb, leb, ltb, List, [], ◌∷◌, ◌++◌, ℤ, length}
+use Rattle.std.proofs.Common.{get_or, refl, sym, ap, ◌∙◌, subst, inl, inr, eq-or-lt_of_le, le_of_suc-le-suc, arith, eqb-true, eq-eqb}
+use Rattle.std.proofs.Common.{ltb-true}
 use Rattle.std.proofs.lemmas.Bool.{leb-true}
 use Rattle.pq_base.specs.SignedWord.{inv, copies, comm}
-use Rattle.pq_base.specs.Presentation.{Presentation, IsPresentation, IsLaterSide, IsRelatorOf, letter, power_side, commutator_side, power_word, commutator_word}
+use Rattle.pq_base.specs.Presentation.{Presentation, IsPresentation, IsLaterSide, IsRelatorOf, letter, power_side, commutator_side}
+use Rattle.pq_base.specs.Presentation.{power_word, commutator_word}
 use Rattle.pq_base.specs.Presentation.IsRelatorOf.{power_relator, commutator_relator}
 use Rattle.pq_base.specs.LPresentation.{AreDistinct}
 use Rattle.pq_base.specs.Table.{AllBelow, Table, IsGroup, HasTableClass, times, inverse, power, commutator, value}
@@ -83,8 +86,12 @@ inverse-found : (T : Table) → has_inverses T ≡ true → (a : ℕ) → a < T.
 inverse-found T h a ha =
     let found = both (ltb (inverse T a) T.size) (eqb (times T a (inverse T a)) 0 && eqb (times T (inverse T a) a) 0)
     (at-below T.size (λ x. ltb (inverse T x) T.size && (eqb (times T x (inverse T x)) 0 && eqb (times T (inverse T x) x) 0)) h a ha) in
-    let sides = both (eqb (times T a (inverse T a)) 0) (eqb (times T (inverse T a) a) 0) found.1 in
-    (inverse T a, ltb-true (inverse T a) T.size found.0, eqb-true (times T a (inverse T a)) 0 sides.0, eqb-true (times T (inverse T a) a) 0 sides.1)
+    let sides = both (eqb (times T a (inverse T a)) 0) (eqb (times T (inverse T a) a) 0) found.1 in (
+      inverse T a,
+      ltb-true (inverse T a) T.size found.0,
+      eqb-true (times T a (inverse T a)) 0 sides.0,
+      eqb-true (times T (inverse T a) a) 0 sides.1,
+    )
 
 -- a table that passes is a group
 pub tested_group : (T : Table) → PassesGroup T → IsGroup T

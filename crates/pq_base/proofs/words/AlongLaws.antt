@@ -12,7 +12,8 @@ pub sub-along : (endos : List (List (List ℤ))) (e : ℕ) (s : List ℕ) (w : L
     → sub (along endos (e ∷ s) w) f ≡ sub (along endos s w) (map (λ (u : List ℤ). sub u f) (endo_at endos e))
 sub-along endos e s w f = sub-sub (along endos s w) (endo_at endos e) f
 
-pub value-along : (T : Table) (g : IsGroup T) (f : List ℕ) (h : AllBelow T.size f) (endos : List (List (List ℤ))) (e : ℕ) (s : List ℕ) (w : List ℤ)
+pub value-along : (T : Table) (g : IsGroup T) (f : List ℕ) (h : AllBelow T.size f) (endos : List (List (List ℤ))) (e : ℕ) (s : List ℕ)
+    (w : List ℤ)
     → value T f (along endos (e ∷ s) w) ≡ value T (map (value T f) (endo_at endos e)) (along endos s w)
 value-along T g f h endos e s w = value-sub T g f h (along endos s w) (endo_at endos e)
 
@@ -26,7 +27,8 @@ pub AreWords-endo_at : (n : ℕ) (endos : List (List (List ℤ))) (e : ℕ) → 
 AreWords-endo_at n endos zero h = tt
 AreWords-endo_at n endos (suc i) h = AreWords-get_or n endos i h
 
-pub HasLetters-along : (n : ℕ) (endos : List (List (List ℤ))) (s : List ℕ) (w : List ℤ) → AreEndos n endos → HasLetters n w → HasLetters n (along endos s w)
+pub HasLetters-along : (n : ℕ) (endos : List (List (List ℤ))) (s : List ℕ) (w : List ℤ) → AreEndos n endos → HasLetters n w
+    → HasLetters n (along endos s w)
 HasLetters-along n endos [] w h i = i
 HasLetters-along n endos (e ∷ s) w h i = HasLetters-sub n (along endos s w) (endo_at endos e) (AreWords-endo_at n endos e h)
 

@@ -10,7 +10,8 @@ use Rattle.pq_base.specs.Joined.IsTrivial.{pair, relator}
 use Rattle.pq_base.specs.Joined.Chain.{done}
 use Rattle.pq_base.specs.Laws.{JoinedWordsAreACongruence}
 use Rattle.pq_base.proofs.words.WordLaws.{inv-inv}
-use Rattle.pq_base.proofs.words.ChainLaws.{IsWordEquivalence, chain-sym, chain-trans, chain-append_left, chain-append_right, chain-append, chain-trivial, chain-induction}
+use Rattle.pq_base.proofs.words.ChainLaws.{IsWordEquivalence, chain-sym, chain-trans, chain-append_left, chain-append_right, chain-append}
+use Rattle.pq_base.proofs.words.ChainLaws.{chain-trivial, chain-induction}
 
 -- an equivalence
 pub joined-refl : (P : Presentation) (u : List ℤ) → Joined P u u
@@ -77,11 +78,13 @@ append-append-inv-joined P w u =
 -- cancelling
 pub joined-cancel_left : {P : Presentation} (w u v : List ℤ) → Joined P (w ++ u) (w ++ v) → Joined P u v
 joined-cancel_left {P} w u v c =
-    joined-trans (joined-sym (inv-append-append-joined P w u)) (joined-trans (joined-append_left (inv w) c) (inv-append-append-joined P w v))
+    joined-trans (joined-sym (inv-append-append-joined P w u))
+    (joined-trans (joined-append_left (inv w) c) (inv-append-append-joined P w v))
 
 pub joined-cancel_right : {P : Presentation} (w u v : List ℤ) → Joined P (u ++ w) (v ++ w) → Joined P u v
 joined-cancel_right {P} w u v c =
-    joined-trans (joined-sym (append-append-inv-joined P u w)) (joined-trans (joined-append_right (inv w) c) (append-append-inv-joined P v w))
+    joined-trans (joined-sym (append-append-inv-joined P u w))
+    (joined-trans (joined-append_right (inv w) c) (append-append-inv-joined P v w))
 
 -- solving
 pub joined-from_quotient : {P : Presentation} (u v : List ℤ) → Joined P (u ++ inv v) [] → Joined P u v
@@ -119,7 +122,8 @@ joined-comm c d = joined-append (joined-inv c) (joined-conj c d)
 -- a product the other way round, and the commutator
 pub append-swap-joined : (P : Presentation) (u v : List ℤ) → Joined P (u ++ v) (v ++ (u ++ comm u v))
 append-swap-joined P u v =
-    joined-sym (joined-trans (joined-append_left v (append-inv-append-joined P u (inv v ++ (u ++ v)))) (append-inv-append-joined P v (u ++ v)))
+    joined-sym (joined-trans (joined-append_left v (append-inv-append-joined P u (inv v ++ (u ++ v))))
+    (append-inv-append-joined P v (u ++ v)))
 
 pub comm-joined : {P : Presentation} (u v : List ℤ) {w : List ℤ} → Joined P (u ++ v) (v ++ (u ++ w)) → Joined P (comm u v) w
 comm-joined {P} u v {w} c =

@@ -2,7 +2,8 @@
 use Rattle.std.proofs.Common.{◌≡◌, ℕ, zero, suc, ◌+◌, ◌<◌, ◌≤◌, ℤ, pos, negsuc, neg_ℤ, List, [], ◌∷◌, ◌++◌, get_or, length, refl, arith}
 use Rattle.pq_base.specs.SignedWord.{inv, copies, pow, comm, conj, image_of, sub, IsLetter, HasLetters}
 use Rattle.pq_base.specs.LPresentation.{AreWords}
-use Rattle.pq_base.specs.Presentation.{Presentation, IsPresentation, IsRelatorOf, letter, word_from, normal_word, power_side, power_word, commutator_side, commutator_word}
+use Rattle.pq_base.specs.Presentation.{Presentation, IsPresentation, IsRelatorOf, letter, word_from, normal_word, power_side, power_word}
+use Rattle.pq_base.specs.Presentation.{commutator_side, commutator_word}
 use Rattle.pq_base.specs.Presentation.IsRelatorOf.{power_relator, commutator_relator}
 
 pub IsLetter-neg : (n : ℕ) (k : ℤ) → IsLetter n k → IsLetter n (neg_ℤ k)
@@ -96,8 +97,10 @@ HasLetters-normal_word n e l = HasLetters-word_from n 0 e (omega arith)
 pub HasLetters-power_word : (P : Presentation) → IsPresentation P → (i : ℕ) → i < P.rank → HasLetters P.rank (power_word P i)
 HasLetters-power_word P p i l = let c = (p.power_sides i l).count in HasLetters-word_from P.rank (suc i) (power_side P i) (omega arith)
 
-pub HasLetters-commutator_word : (P : Presentation) → IsPresentation P → (j i : ℕ) → j < P.rank → i < j → HasLetters P.rank (commutator_word P j i)
-HasLetters-commutator_word P p j i l m = let c = (p.commutator_sides j i l m).count in HasLetters-word_from P.rank (suc j) (commutator_side P j i) (omega arith)
+pub HasLetters-commutator_word : (P : Presentation) → IsPresentation P → (j i : ℕ) → j < P.rank → i < j
+    → HasLetters P.rank (commutator_word P j i)
+HasLetters-commutator_word P p j i l m = let c = (p.commutator_sides j i l m).count in
+    HasLetters-word_from P.rank (suc j) (commutator_side P j i) (omega arith)
 
 pub HasLetters-relator : (P : Presentation) → IsPresentation P → {r : List ℤ} → IsRelatorOf P r → HasLetters P.rank r
 HasLetters-relator P p (power_relator i l) =

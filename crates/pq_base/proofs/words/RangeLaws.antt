@@ -1,6 +1,7 @@
 -- Words over the generators of a presentation that are joined are joined by a chain of words over its generators: leaving
 -- out all other letters takes any chain to such a one.
-use Rattle.std.proofs.Common.{◌≡◌, ◌⊎◌, inl, inr, ℕ, zero, suc, ◌+◌, ◌<◌, ◌≤◌, ℤ, pos, negsuc, List, [], ◌∷◌, ◌++◌, get_or, length, refl, ap, ◌∙◌, arith}
+use Rattle.std.proofs.Common.{◌≡◌, ◌⊎◌, inl, inr, ℕ, zero, suc, ◌+◌, ◌<◌, ◌≤◌, ℤ, pos, negsuc, List, [], ◌∷◌, ◌++◌, get_or, length, refl}
+use Rattle.std.proofs.Common.{ap, ◌∙◌, arith}
 use Rattle.std.proofs.lemmas.List.{get_or_past}
 use Rattle.std.proofs.Math.Nat.{zero-add}
 use native.Mathlib.Decide.{dec_lt}
@@ -109,7 +110,8 @@ within-joined P p c = chain-induction R equivalence at_insertion c
     at_insertion a x b t =
         let f = generators P.rank in
         let h : HasLetters P.rank (sub a f ++ sub b f) = rw sub-append at (HasLetters-sub_generators P.rank (a ++ b)) in
-        let i : HasLetters P.rank (sub a f ++ (sub x f ++ sub b f)) = simp sub-append at (HasLetters-sub_generators P.rank (a ++ (x ++ b))) in
+        let i : HasLetters P.rank (sub a f ++ (sub x f ++ sub b f)) =
+        simp sub-append at (HasLetters-sub_generators P.rank (a ++ (x ++ b))) in
         let d : ChainWithin P.rank (IsTrivial P) (sub a f ++ sub b f) (sub a f ++ (sub x f ++ sub b f)) = elim (stays P p x t) [
           | inl e ↦ within-insert P.rank (IsTrivial P) (sub a f) (sub x f) (sub b f) h i e
           | inr e ↦ rw e (stop h)

@@ -1,6 +1,7 @@
 -- The words that the generators spell, one after the other: each is spelled by the words before it, and definitions that
 -- follow add words at the end. The left side of a relation, in spelled generators, is what it spells as a definition.
-use Rattle.std.proofs.Common.{◌≡◌, ℕ, zero, suc, ◌+◌, ◌<◌, ◌≤◌, ℤ, List, [], ◌∷◌, ◌++◌, get_or, length, map, refl, ap, ap₂, sym, ◌∙◌, subst, arith, append_assoc, length-append}
+use Rattle.std.proofs.Common.{◌≡◌, ℕ, zero, suc, ◌+◌, ◌<◌, ◌≤◌, ℤ, List, [], ◌∷◌, ◌++◌, get_or, length, map, refl, ap, ap₂, sym, ◌∙◌, subst}
+use Rattle.std.proofs.Common.{arith, append_assoc, length-append}
 use Rattle.std.proofs.lemmas.List.{append-nil, get_or_append_left, get_or-append-add}
 use Rattle.std.specs.List.{All}
 use Rattle.std.proofs.lemmas.List.Elements.{All-head, All-tail}
@@ -22,12 +23,14 @@ word_at-left words more zero l = refl
 word_at-left words more (suc j) l = get_or_append_left words more [] j (omega arith)
 
 module _ (p : ℕ) where
-  spelled-grown : (words more : List (List ℤ)) (d : Definition) → RefersBefore (length words) d → spelled p (words ++ more) d ≡ spelled p words d
+  spelled-grown : (words more : List (List ℤ)) (d : Definition) → RefersBefore (length words) d
+      → spelled p (words ++ more) d ≡ spelled p words d
   spelled-grown words more (image i) h = refl
   spelled-grown words more (commutator j i) h = ap₂ comm (word_at-left words more j h.0) (word_at-left words more i h.1)
   spelled-grown words more (power j) h = ap (λ (w : List ℤ). copies w p) (word_at-left words more j h)
 
-  pub spellings-append : (words : List (List ℤ)) (ds es : List Definition) → spellings p words (ds ++ es) ≡ spellings p (spellings p words ds) es
+  pub spellings-append : (words : List (List ℤ)) (ds es : List Definition)
+      → spellings p words (ds ++ es) ≡ spellings p (spellings p words ds) es
   spellings-append words [] es = refl
   spellings-append words (d ∷ ds) es = spellings-append (words ++ spelled p words d ∷ []) ds es
 
@@ -125,7 +128,8 @@ module _ (A : Answer) where
   -- its entry is a word before itself, inverted
   pub definition-entry : IsAnswer A → (k : ℕ) → k < A.presentation.rank → IsSourceOf A (definition_at A k)
       → entry_word A (definition_at A k)
-      ≡ inv (spelled A.presentation.prime (spelling_words A) (definition_at A k)) ++ spelled A.presentation.prime (spelling_words A) (definition_at A k)
+      ≡ inv (spelled A.presentation.prime (spelling_words A) (definition_at A k))
+      ++ spelled A.presentation.prime (spelling_words A) (definition_at A k)
   definition-entry is k l source =
       let d : Definition = definition_at A k in
       let S : List (List ℤ) = spelling_words A in

@@ -8,7 +8,8 @@ use Rattle.pq_base.specs.Joined.{IsTrivial, Joined}
 use Rattle.pq_base.specs.Joined.IsTrivial.{pair, relator}
 use Rattle.pq_base.specs.Laws.{SubstitutionsCarryJoinedWords}
 use Rattle.pq_base.proofs.words.ChainLaws.{chain-map}
-use Rattle.pq_base.proofs.words.JoinedLaws.{joined-refl, joined-sym, joined-trans, joined-append, joined-inv, joined-from_equal, append-inv-joined, inv-append-joined, pair-joined}
+use Rattle.pq_base.proofs.words.JoinedLaws.{joined-refl, joined-sym, joined-trans, joined-append, joined-inv, joined-from_equal}
+use Rattle.pq_base.proofs.words.JoinedLaws.{append-inv-joined, inv-append-joined, pair-joined}
 use Rattle.pq_base.proofs.groups.Groups.{Group, element_in, value_in, value_in-joined, value_in-same}
 
 abbrev pub word_group : Presentation → Group
@@ -44,7 +45,8 @@ value_in-word_group P f (k ∷ w) = rw (element_in-word_group P f k, value_in-wo
 pub joined-sub : (P Q : Presentation) (f : List (List ℤ)) → ((r : List ℤ) → IsRelatorOf P r → Joined Q (sub r f) [])
     → {u v : List ℤ} → Joined P u v → Joined Q (sub u f) (sub v f)
 joined-sub P Q f kills {u} {v} c =
-    let at_relators : (r : List ℤ) → IsRelatorOf P r → Joined Q (value_in (word_group Q) f r) [] = λ r h. rw (value_in-word_group Q f r) (kills r h) in
+    let at_relators : (r : List ℤ) → IsRelatorOf P r → Joined Q (value_in (word_group Q) f r) [] =
+    λ r h. rw (value_in-word_group Q f r) (kills r h) in
     let d : Joined Q (value_in (word_group Q) f u) (value_in (word_group Q) f v) = value_in-joined (word_group Q) P f at_relators c in
     rw (value_in-word_group Q f u, value_in-word_group Q f v) at d
 

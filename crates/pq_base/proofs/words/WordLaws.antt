@@ -1,6 +1,7 @@
 -- Words obey the laws of a monoid with reversal, and a substitution keeps products, inverses, powers and commutators.
 -- Every law is an equation of lists: nothing cancels, and no letter has to be in range.
-use Rattle.std.proofs.Common.{◌≡◌, ℕ, zero, suc, ◌+◌, ◌*◌, ℤ, pos, negsuc, neg_ℤ, List, [], ◌∷◌, ◌++◌, get_or, length, map, replicate, refl, ap, sym, ◌∙◌, append_assoc, arith}
+use Rattle.std.proofs.Common.{◌≡◌, ℕ, zero, suc, ◌+◌, ◌*◌, ℤ, pos, negsuc, neg_ℤ, List, [], ◌∷◌, ◌++◌, get_or, length, map, replicate, refl}
+use Rattle.std.proofs.Common.{ap, sym, ◌∙◌, append_assoc, arith}
 use Rattle.std.proofs.lemmas.List.{append-nil}
 use Rattle.std.proofs.Math.Nat.{zero-add, add-zero, suc-add, mul-zero, mul-suc}
 use Rattle.std.proofs.Math.ListN.{get_or-map}
@@ -99,7 +100,8 @@ image_of-map f g (negsuc n) = ap inv (get_or-map (λ (u : List ℤ). sub u g) f 
 -- one substitution after another is the substitution of the images
 pub sub-sub : (w : List ℤ) (f g : List (List ℤ)) → sub (sub w f) g ≡ sub w (map (λ (u : List ℤ). sub u g) f)
 sub-sub [] f g = refl
-sub-sub (k ∷ w) f g = simp (sub-append, sub-sub w f g) (ap (λ (v : List ℤ). v ++ sub w (map (λ (u : List ℤ). sub u g) f)) (sym (image_of-map f g k)))
+sub-sub (k ∷ w) f g =
+    simp (sub-append, sub-sub w f g) (ap (λ (v : List ℤ). v ++ sub w (map (λ (u : List ℤ). sub u g) f)) (sym (image_of-map f g k)))
 
 -- a single generator
 pub sub-letter : (i : ℕ) (f : List (List ℤ)) → sub (letter i) f ≡ get_or f i []

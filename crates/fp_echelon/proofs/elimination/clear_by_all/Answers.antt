@@ -18,7 +18,8 @@ clear_by-requires-clause-other c =
 
 pub clear_by-requires-clause-pivot : goal.clear_by-requires-clause-pivot
 clear_by-requires-clause-pivot c =
-    let here = HavePivots-at (length c.args.entry.now.row) c.args.others.now c.loop-other.other-index c.other-item.result c.loop-other-test.true
+    let here =
+    HavePivots-at (length c.args.entry.now.row) c.args.others.now c.loop-other.other-index c.other-item.result c.loop-other-test.true
     c.requires.pivots in
     subst (λ (w : ℕ). HasPivot w c.other-item.result) (sym c.loop-other.invariant.slot.row.count)
     (subst (λ (s : Slot). HasPivot (length c.args.entry.now.row) s) (sym c.other-item.is) here)
@@ -34,10 +35,12 @@ loop-other-preserved c =
     c.clear_by.ensures ∙ ap (λ (s : Slot). cleared_slot c.args.count s c.loop-other.entry) c.other-item.is in
     record {
       slot = subst (λ (s : Slot). IsSlot p width c.args.count s) (sym new)
-          (IsSlot-cleared_slot p width (prime_from_pivot p width c.args.count _ _ here pivot) c.args.count c.args.count _ c.loop-other.entry here
+          (IsSlot-cleared_slot p width (prime_from_pivot p width c.args.count _ _ here pivot) c.args.count c.args.count _ c.loop-other.entry
+          here
           c.loop-other.invariant.slot c.loop-other.invariant.slot);
       rest =
           ap (λ (s : Slot). cleared_by_each c.args.count (drop (i + 1) c.args.others.now) s) new
-          ∙ sym (at_drop_more (λ (l : List Slot). cleared_by_each c.args.count l c.loop-other.entry) c.args.others.now i c.other-item.result c.loop-other-test.true)
+          ∙ sym (at_drop_more (λ (l : List Slot). cleared_by_each c.args.count l c.loop-other.entry) c.args.others.now i c.other-item.result
+          c.loop-other-test.true)
           ∙ c.loop-other.invariant.rest;
     }

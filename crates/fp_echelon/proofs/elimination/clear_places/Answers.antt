@@ -8,7 +8,8 @@ clear_place-requires c =
     let d : Slot = c.entry-item.result in
     let i : ℕ = c.loop-entry.entry-index in
     let same : get_or c.loop-entry.entries i d ≡ get_or c.args.entries.now i d =
-    ap (λ (l : List Slot). get_or l i d) c.loop-entry.invariant ∙ get_or-mapped (placed_slot c.args.place) c.args.entries.now i d c.loop-entry-test.true in
+    ap (λ (l : List Slot). get_or l i d) c.loop-entry.invariant
+    ∙ get_or-mapped (placed_slot c.args.place) c.args.entries.now i d c.loop-entry-test.true in
     subst (λ (s : Slot). c.args.place < length s.coefficients) (sym same)
     (HaveRoom-at (suc c.args.place) c.args.entries.now i d c.loop-entry-test.true c.requires)
 

@@ -22,8 +22,10 @@ reduced_is p q width n slots new x d two e row fits are is =
 
 pub inv-k-requires-clause-residue : goal.inv-k-requires-clause-residue
 inv-k-requires-clause-residue c =
-    let here = reduced_is c.args.row.now.prime (prime_value c.prime-prime.result) (length c.args.row.now.entries) c.args.rank c.args.entries.now
-    c.reduce_new.new.entries c.args.row.now.entries c.index-entries-rank.result (prime_value-two c.prime-prime.result) c.prime-prime.ensures.prime
+    let here =
+    reduced_is c.args.row.now.prime (prime_value c.prime-prime.result) (length c.args.row.now.entries) c.args.rank c.args.entries.now
+    c.reduce_new.new.entries c.args.row.now.entries c.index-entries-rank.result
+    (prime_value-two c.prime-prime.result) c.prime-prime.ensures.prime
     c.prime-prime.ensures.row c.requires.rank c.requires.slots c.reduce_new.ensures in
     let prime : c.row-reduced.result.now.prime ≡ prime_value c.prime-prime.result =
     ap (λ (r : PrimeRow). r.prime) c.row-reduced.ensures
@@ -33,7 +35,8 @@ inv-k-requires-clause-residue c =
 
 pub join_new-requires-clause-slots : goal.join_new-requires-clause-slots
 join_new-requires-clause-slots c =
-    let here = reduced_is c.args.row.now.prime (prime_value c.prime-prime.result) (length c.args.row.now.entries) c.args.rank c.args.entries.now
+    let here =
+    reduced_is c.args.row.now.prime (prime_value c.prime-prime.result) (length c.args.row.now.entries) c.args.rank c.args.entries.now
     c.reduce_new.new.entries c.args.row.now.entries no_slot (prime_value-two c.prime-prime.result) c.prime-prime.ensures.prime
     c.prime-prime.ensures.row c.requires.rank c.requires.slots c.reduce_new.ensures in
     AreSlots-own _ _ _ _ (suc c.args.rank) (suc c.args.rank) c.reduce_new.new.entries (sym here.prime) (sym here.row.count) refl
@@ -43,7 +46,8 @@ join_new-requires-clause-slots c =
 
 pub join_new-requires-clause-factor : goal.join_new-requires-clause-factor
 join_new-requires-clause-factor c =
-    let here = reduced_is c.args.row.now.prime (prime_value c.prime-prime.result) (length c.args.row.now.entries) c.args.rank c.args.entries.now
+    let here =
+    reduced_is c.args.row.now.prime (prime_value c.prime-prime.result) (length c.args.row.now.entries) c.args.rank c.args.entries.now
     c.reduce_new.new.entries c.args.row.now.entries no_slot (prime_value-two c.prime-prime.result) c.prime-prime.ensures.prime
     c.prime-prime.ensures.row c.requires.rank c.requires.slots c.reduce_new.ensures in
     subst (λ (n : ℕ). c.inv-k.result < n) (c.prime-prime.ensures.prime ∙ sym here.prime) c.inv-k.ensures.residue

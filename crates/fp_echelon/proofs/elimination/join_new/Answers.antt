@@ -15,21 +15,25 @@ scale-requires-clause-slot c =
     let s : Slot = get_or c.args.entries.now c.args.rank no_slot in
     let here = IsSlot-later s.prime (length s.row) (suc c.args.rank) c.args.rank c.args.entries.now
     c.split_at_mut-older.result.1.now c.index-later-0.result c.requires.rank c.split_at_mut-older.ensures.back c.requires.slots in
-    rw add-one (IsSlot-own _ _ _ _ (suc c.args.rank) (get_or c.split_at_mut-older.result.1.now 0 c.index-later-0.result) (sym here.prime) (sym here.row.count) here)
+    rw add-one (IsSlot-own _ _ _ _ (suc c.args.rank) (get_or c.split_at_mut-older.result.1.now 0 c.index-later-0.result) (sym here.prime)
+    (sym here.row.count) here)
 
 pub clear_all-requires-clause-slot : goal.clear_all-requires-clause-slot
 clear_all-requires-clause-slot c =
     let s : Slot = get_or c.args.entries.now c.args.rank no_slot in
     let new = scaled_is s.prime (length s.row) c.args.rank c.args.column c.args.k c.args.entries.now c.split_at_mut-older.result.1.now
-    c.index-later-0.result c.scale.new.self c.requires.factor c.requires.rank c.requires.slots c.split_at_mut-older.ensures.back c.scale.ensures in
+    c.index-later-0.result c.scale.new.self c.requires.factor c.requires.rank c.requires.slots c.split_at_mut-older.ensures.back
+    c.scale.ensures in
     rw add-one (IsSlot-own _ _ _ _ (suc c.args.rank) c.scale.new.self (sym new.prime) (sym new.row.count) new)
 
 pub clear_all-requires-clause-slots : goal.clear_all-requires-clause-slots
 clear_all-requires-clause-slots c =
     let s : Slot = get_or c.args.entries.now c.args.rank no_slot in
     let new = scaled_is s.prime (length s.row) c.args.rank c.args.column c.args.k c.args.entries.now c.split_at_mut-older.result.1.now
-    c.index-later-0.result c.scale.new.self c.requires.factor c.requires.rank c.requires.slots c.split_at_mut-older.ensures.back c.scale.ensures in
-    AreSlots-own _ _ _ _ (suc c.args.rank) (c.args.rank + 1) c.split_at_mut-older.result.0.now (sym new.prime) (sym new.row.count) (sym (add-one c.args.rank))
+    c.index-later-0.result c.scale.new.self c.requires.factor c.requires.rank c.requires.slots c.split_at_mut-older.ensures.back
+    c.scale.ensures in
+    AreSlots-own _ _ _ _ (suc c.args.rank) (c.args.rank + 1) c.split_at_mut-older.result.0.now (sym new.prime) (sym new.row.count)
+    (sym (add-one c.args.rank))
     (AreSlots-older s.prime (length s.row) (suc c.args.rank) c.args.rank c.args.entries.now c.split_at_mut-older.result.0.now
     c.split_at_mut-older.ensures.front c.requires.slots)
 
@@ -37,7 +41,8 @@ pub clear_all-requires-clause-pivot : goal.clear_all-requires-clause-pivot
 clear_all-requires-clause-pivot c =
     let s : Slot = get_or c.args.entries.now c.args.rank no_slot in
     let new = scaled_is s.prime (length s.row) c.args.rank c.args.column c.args.k c.args.entries.now c.split_at_mut-older.result.1.now
-    c.index-later-0.result c.scale.new.self c.requires.factor c.requires.rank c.requires.slots c.split_at_mut-older.ensures.back c.scale.ensures in
+    c.index-later-0.result c.scale.new.self c.requires.factor c.requires.rank c.requires.slots c.split_at_mut-older.ensures.back
+    c.scale.ensures in
     let column : c.scale.new.self.pivot ≡ c.args.column = ap (λ (t : Slot). t.pivot) c.scale.ensures in
     let long = new.row.count in
     let first = c.requires.column.first in

@@ -29,7 +29,8 @@ loop-entry-preserved c =
     let here = AreSlots-at p (length c.args.row.now.entries) 0 c.args.entries.now i item c.loop-entry-test.true c.requires.slots in
     let wide : length c.loop-entry.row.entries ≡ length item.row =
     c.loop-entry.invariant.width ∙ sym here.row.count ∙ ap (λ (s : Slot). length s.row) (sym c.entry-item.is) in
-    let new : c.clear_row.new.row.entries ≡ cleared p (get_or c.args.entries.now i item).pivot (get_or c.args.entries.now i item).row c.loop-entry.row.entries =
+    let new : c.clear_row.new.row.entries
+    ≡ cleared p (get_or c.args.entries.now i item).pivot (get_or c.args.entries.now i item).row c.loop-entry.row.entries =
     ap (λ (r : PrimeRow). r.entries) c.clear_row.ensures
     ∙ ap (λ (q : ℕ). cleared q item.pivot item.row c.loop-entry.row.entries) c.loop-entry.invariant.prime
     ∙ ap (λ (s : Slot). cleared p s.pivot s.row c.loop-entry.row.entries) c.entry-item.is in
@@ -42,6 +43,7 @@ loop-entry-preserved c =
           ∙ c.loop-entry.invariant.width;
       rest = λ n.
           ap (λ (l : List ℕ). reduce_by p (all_seen n (drop (i + 1) c.args.entries.now)) l) new
-          ∙ sym (at_drop_more (λ (l : List Slot). reduce_by p (all_seen n l) c.loop-entry.row.entries) c.args.entries.now i item c.loop-entry-test.true)
+          ∙ sym (at_drop_more (λ (l : List Slot). reduce_by p (all_seen n l) c.loop-entry.row.entries) c.args.entries.now i item
+          c.loop-entry-test.true)
           ∙ c.loop-entry.invariant.rest n;
     }

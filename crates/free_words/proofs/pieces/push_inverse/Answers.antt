@@ -21,6 +21,7 @@ loop-k-preserved c =
     let e : c.push.new.self.items ≡ c.loop-k.out.items ++ neg_ℤ c.in-Some.k.now ∷ [] =
     c.in_ok-push.ensures.items ∙ ap (λ (m : ℤ). c.loop-k.out.items ++ m ∷ [])
     (to_z-of_z w32 c.inverted.result r ∙ c.inverted.ensures ∙ ap neg_ℤ (to_z-of_z w32 c.in-Some.k.now f)) in (
-      append-inv_last c.loop-k.out.items c.push.new.self.items c.loop-k.rest.now c.in-Some.before.now c.in-Some.k.now s e ∙ c.loop-k.invariant.0,
+      append-inv_last c.loop-k.out.items c.push.new.self.items c.loop-k.rest.now c.in-Some.before.now c.in-Some.k.now s e
+          ∙ c.loop-k.invariant.0,
       HasLetters-append_left 2147483647 c.in-Some.before.now (c.in-Some.k.now ∷ []) l,
     )

@@ -9,7 +9,8 @@ use Rattle.free_words.proofs.reduction.reduce_free.Goals as goal
 
 pub loop-k-init : goal.loop-k-init
 loop-k-init c =
-    let w : IsWord c.letters-word.result.now = rw c.letters-word.ensures.value (record { letters = c.letters-word.ensures.letters; limit = c.letters-word.ensures.limit }) in
+    let w : IsWord c.letters-word.result.now =
+    rw c.letters-word.ensures.value (record { letters = c.letters-word.ensures.letters; limit = c.letters-word.ensures.limit }) in
     rw c.in_ok-letters.ensures.items (w, record { reduced = tt; reached = same; letters = tt; count = omega arith })
 
 pub take_letter-requires : goal.take_letter-requires

@@ -17,15 +17,19 @@ push_image-requires c =
 pub loop-k-preserved : goal.loop-k-preserved
 loop-k-preserved c =
     let f : FitsSigned w32 (get_or c.letters-word.result.now c.loop-k.k-index (pos 0)) = search rules in
-    let e : c.push_image.new.out.items ≡ c.loop-k.letters.items ++ image_of c.args.images.now (get_or c.letters-word.result.now c.loop-k.k-index (pos 0)) =
+    let e : c.push_image.new.out.items
+    ≡ c.loop-k.letters.items ++ image_of c.args.images.now (get_or c.letters-word.result.now c.loop-k.k-index (pos 0)) =
     rw (to_z-of_z w32 (get_or c.letters-word.result.now c.loop-k.k-index (pos 0)) f) at c.in_ok-push_image.ensures.image in
     let i = rw (to_z-of_z w32 (get_or c.letters-word.result.now c.loop-k.k-index (pos 0)) f) at c.in_ok-push_image.ensures.letters in (
       rw (e, c.loop-k.invariant.0) (sym (sub-take_more c.letters-word.result.now c.args.images.now c.loop-k.k-index c.loop-k-test.true)),
-      rw e (HasLetters-append 2147483647 c.loop-k.letters.items (image_of c.args.images.now (get_or c.letters-word.result.now c.loop-k.k-index (pos 0))) c.loop-k.invariant.1 i),
+      rw e (HasLetters-append 2147483647 c.loop-k.letters.items
+          (image_of c.args.images.now (get_or c.letters-word.result.now c.loop-k.k-index (pos 0))) c.loop-k.invariant.1 i),
     )
 
 pub from_vec-requires : goal.from_vec-requires
 from_vec-requires c =
-    let t : take c.loop-k.k-index c.letters-word.result.now ≡ c.letters-word.result.now = take_all c.loop-k.k-index c.letters-word.result.now (grind arith) in
-    let e : c.loop-k.letters.items ≡ sub c.letters-word.result.now c.args.images.now = c.loop-k.invariant.0 ∙ ap (λ (v : List ℤ). sub v c.args.images.now) t in
+    let t : take c.loop-k.k-index c.letters-word.result.now ≡ c.letters-word.result.now =
+    take_all c.loop-k.k-index c.letters-word.result.now (grind arith) in
+    let e : c.loop-k.letters.items ≡ sub c.letters-word.result.now c.args.images.now =
+    c.loop-k.invariant.0 ∙ ap (λ (v : List ℤ). sub v c.args.images.now) t in
     record { letters = c.loop-k.invariant.1; limit = rw (e, ← c.substituted_len.ensures) c.in_ok-letters.ensures.1 }

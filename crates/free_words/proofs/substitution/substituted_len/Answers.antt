@@ -21,8 +21,10 @@ loop-k-preserved c =
     let r : c.image_at.result.now ≡ get_or c.args.images.now (unsigned_abs (get_or c.args.word.now c.loop-k.k-index (pos 0)) - 1) [] =
     rw (to_z-of_z w32 (get_or c.args.word.now c.loop-k.k-index (pos 0)) f) at c.image_at.ensures in
     let m : length c.letters.result.now ≡ length (image_of c.args.images.now (get_or c.args.word.now c.loop-k.k-index (pos 0))) =
-    ap length (c.letters.ensures.value ∙ r) ∙ sym (length-image_of c.args.images.now (length c.args.images.now) (get_or c.args.word.now c.loop-k.k-index (pos 0)) i) in
+    ap length (c.letters.ensures.value ∙ r)
+    ∙ sym (length-image_of c.args.images.now (length c.args.images.now) (get_or c.args.word.now c.loop-k.k-index (pos 0)) i) in
     let s = ap length (sub-take_more c.args.word.now c.args.images.now c.loop-k.k-index c.loop-k-test.true) in
-    let a = length-append (sub (take c.loop-k.k-index c.args.word.now) c.args.images.now) (image_of c.args.images.now (get_or c.args.word.now c.loop-k.k-index (pos 0))) in
+    let a = length-append (sub (take c.loop-k.k-index c.args.word.now) c.args.images.now)
+    (image_of c.args.images.now (get_or c.args.word.now c.loop-k.k-index (pos 0))) in
     let b : length c.letters.result.now ≤ max_letters = rw (← c.letters.ensures.value) at c.letters.ensures.limit in
     (omega (arith, c.loop-k.invariant.0), omega arith)

@@ -4,4 +4,5 @@ use Rattle.lpres_reader.proofs.canonical.push_generators.Given as goal
 
 -- what is written, and the names that are left, are all
 abbrev pub invariant-loop-name : goal.invariant-loop-name
-invariant-loop-name l = l.out.items ++ preceded (codes " ") (drop l.name-index l.names) ≡ l.initial.out.items ++ preceded (codes " ") l.names
+invariant-loop-name l =
+    l.out.items ++ preceded (codes " ") (drop l.name-index l.names) ≡ l.initial.out.items ++ preceded (codes " ") l.names

@@ -15,7 +15,8 @@ nowhere = record { ref_ptr = (0, 0); now = [] }
 pub returns-then-not-branch : goal.returns-then-not-branch
 returns-then-not-branch c = (
   refl,
-  λ distinct. seen_again c.args.texts.now c.loop-text.seen.keys c.loop-text.text-index nowhere c.loop-text.invariant.same c.loop-text-test.true
+  λ distinct. seen_again c.args.texts.now c.loop-text.seen.keys c.loop-text.text-index nowhere c.loop-text.invariant.same
+      c.loop-text-test.true
       (not-false _ (sym c.in_ok-insert.ensures.added ∙ c.if-not-branch.true)) distinct,
 )
 
@@ -28,7 +29,8 @@ loop-text-preserved c =
     record {
       same =
           c.in_ok-insert.ensures.keys ∙ ap (λ (b : Bool). cond b keys (keys ++ t ∷ [])) new
-          ∙ ap (λ (l : List (Bor (List ℕ))). l ++ t ∷ []) c.loop-text.invariant.same ∙ sym (take_more texts c.loop-text.text-index nowhere c.loop-text-test.true);
+          ∙ ap (λ (l : List (Bor (List ℕ))). l ++ t ∷ []) c.loop-text.invariant.same
+          ∙ sym (take_more texts c.loop-text.text-index nowhere c.loop-text-test.true);
       distinct = seen_distinct c.insert.new.self.keys c.in_ok-insert.ensures.unique;
     }
 

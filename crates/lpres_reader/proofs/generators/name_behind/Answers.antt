@@ -8,8 +8,10 @@ use Rattle.lpres_reader.proofs.generators.name_behind.Goals as goal
 
 pub returns-in-Name : goal.returns-in-Name
 returns-in-Name c =
-    let here = rw c.in-Name.is at (rw c.in-Some.is at c.in_ok-token.ensures) in
-    (names_on-token_first c.args.line.now c.in-Some.rest.now (name c.in-Name.text.now) here, rest_is_shorter c.args.line.now c.in-Some.rest.now (name c.in-Name.text.now) here)
+    let here = rw c.in-Name.is at (rw c.in-Some.is at c.in_ok-token.ensures) in (
+      names_on-token_first c.args.line.now c.in-Some.rest.now (name c.in-Name.text.now) here,
+      rest_is_shorter c.args.line.now c.in-Some.rest.now (name c.in-Name.text.now) here,
+    )
 
 pub returns-in-Number : goal.returns-in-Number
 returns-in-Number c =
@@ -25,7 +27,9 @@ returns-in_ok-name_behind_symbol-in-Symbol c =
 
 pub returns-in_err-name_behind_symbol-in-Symbol : goal.returns-in_err-name_behind_symbol-in-Symbol
 returns-in_err-name_behind_symbol-in-Symbol c =
-    let p = err_from_is_err_and c.from_residual-in_err-name_behind_symbol-in-Symbol.result c.from_residual-in_err-name_behind_symbol-in-Symbol.ensures.1 in
+    let p = err_from_is_err_and c.from_residual-in_err-name_behind_symbol-in-Symbol.result
+    c.from_residual-in_err-name_behind_symbol-in-Symbol.ensures.1 in
     let here = rw c.in-Symbol.is at (rw c.in-Some.is at c.in_ok-token.ensures) in
     rw (p.1, p.2) (refuses_map _ _ c.in_err-name_behind_symbol-in-Symbol.field-0.0
-    (λ k h. (h.0, names_on-token_first c.args.line.now c.in-Some.rest.now (symbol c.in-Symbol.symbol) here ∙ h.1)) c.in_err-name_behind_symbol-in-Symbol.ensures)
+    (λ k h. (h.0, names_on-token_first c.args.line.now c.in-Some.rest.now (symbol c.in-Symbol.symbol) here ∙ h.1))
+    c.in_err-name_behind_symbol-in-Symbol.ensures)

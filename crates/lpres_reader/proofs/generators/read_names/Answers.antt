@@ -29,15 +29,18 @@ returns-in_err-check_distinct c =
     let line = c.args.line.now in
     let names = texts_of c.deref.result.now in
     let shallow : IsShallow line = c.is_shallow.ensures.shallow c.if-not-is_shallow.false in
-    let found : line_names line ≡ Some names = c.in_ok-texts.ensures ∙ ap (λ (l : List (Bor (List ℕ))). Some (texts_of l)) (sym c.deref.ensures.value) in
+    let found : line_names line ≡ Some names =
+    c.in_ok-texts.ensures ∙ ap (λ (l : List (Bor (List ℕ))). Some (texts_of l)) (sym c.deref.ensures.value) in
     rw (p.1, p.2) (refuses_map _ _ c.in_err-check_distinct.field-0.0
-    (λ k h. subst (λ (l : Kind). LineFault None line (kind_of l)) (sym h.0) (repeated_fault line names shallow found h.1)) c.in_err-check_distinct.ensures)
+    (λ k h. subst (λ (l : Kind). LineFault None line (kind_of l)) (sym h.0) (repeated_fault line names shallow found h.1))
+    c.in_err-check_distinct.ensures)
 
 pub names_of-requires-clause-texts : goal.names_of-requires-clause-texts
 names_of-requires-clause-texts c =
     let line = c.args.line.now in
     let names = texts_of c.deref-2.result.now in
-    let found : line_names line ≡ Some names = c.in_ok-texts.ensures ∙ ap (λ (l : List (Bor (List ℕ))). Some (texts_of l)) (sym c.deref-2.ensures.value) in
+    let found : line_names line ≡ Some names =
+    c.in_ok-texts.ensures ∙ ap (λ (l : List (Bor (List ℕ))). Some (texts_of l)) (sym c.deref-2.ensures.value) in
     let are = line_names-are line names found in
     are.texts
 
@@ -46,8 +49,14 @@ returns c =
     let line = c.args.line.now in
     let names = texts_of c.deref-2.result.now in
     let shallow : IsShallow line = c.is_shallow.ensures.shallow c.if-not-is_shallow.false in
-    let found : line_names line ≡ Some names = c.in_ok-texts.ensures ∙ ap (λ (l : List (Bor (List ℕ))). Some (texts_of l)) (sym c.deref-2.ensures.value) in
-    let distinct : AreDistinct names = subst (λ (l : List (Bor (List ℕ))). AreDistinct (texts_of l)) (c.deref.ensures.value ∙ sym c.deref-2.ensures.value) c.in_ok-check_distinct.ensures in
+    let found : line_names line ≡ Some names =
+    c.in_ok-texts.ensures ∙ ap (λ (l : List (Bor (List ℕ))). Some (texts_of l)) (sym c.deref-2.ensures.value) in
+    let distinct : AreDistinct names =
+    subst (λ (l : List (Bor (List ℕ))). AreDistinct (texts_of l))
+    (c.deref.ensures.value ∙ sym c.deref-2.ensures.value) c.in_ok-check_distinct.ensures in
     result_map _ _ _ _ c.names_of.result
-    (λ set h. (h.generators, subst (λ (ns : List (List ℕ)). Makes None line (bare ns)) (sym h.same) (names_made line names shallow found distinct h.kept)))
+    (λ set h. (
+      h.generators,
+      subst (λ (ns : List (List ℕ)). Makes None line (bare ns)) (sym h.same) (names_made line names shallow found distinct h.kept),
+    ))
     (λ k h. subst (LineFault None line) (sym h.2) (limit_fault line names h.0 shallow found distinct h.1)) c.names_of.ensures

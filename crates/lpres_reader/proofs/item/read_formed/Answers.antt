@@ -14,10 +14,17 @@ pub returns-in_err-first : goal.returns-in_err-first
 returns-in_err-first c i d =
     let p = err_from_is_err_and c.from_residual-in_err-first.result c.from_residual-in_err-first.ensures.1 in
     let distinct = subst AreDistinct c.requires.names c.requires.generators.distinct in
-    rw (p.1, p.2) (unbegun_gives c.args.pres.now distinct c.args.line.now c.in_ok-keyword.after.now c.in_ok-keyword.keyword.now c.in_ok-keyword.ensures c.in_err-first.field-0.0 c.in_err-first.ensures i d)
+    rw (
+      p.1,
+      p.2,
+    ) (unbegun_gives c.args.pres.now distinct c.args.line.now c.in_ok-keyword.after.now c.in_ok-keyword.keyword.now
+    c.in_ok-keyword.ensures c.in_err-first.field-0.0 c.in_err-first.ensures i d)
 
 pub returns : goal.returns
 returns c i d =
     let distinct = subst AreDistinct c.requires.names c.requires.generators.distinct in
-    let runs = subst (λ (names : List (List ℕ)). RunsTo names c.in_ok-first.first c.in_ok-keyword.after.now c.gather.result) c.requires.names c.gather.ensures in
-    formed_gives c.args.pres.now distinct c.args.line.now c.in_ok-keyword.after.now c.in_ok-keyword.keyword.now c.in_ok-keyword.ensures c.in_ok-first.first c.gather.result c.in_ok-first.ensures runs i d
+    let runs =
+    subst (λ (names : List (List ℕ)). RunsTo names c.in_ok-first.first c.in_ok-keyword.after.now c.gather.result) c.requires.names
+    c.gather.ensures in
+    formed_gives c.args.pres.now distinct c.args.line.now c.in_ok-keyword.after.now c.in_ok-keyword.keyword.now c.in_ok-keyword.ensures
+    c.in_ok-first.first c.gather.result c.in_ok-first.ensures runs i d

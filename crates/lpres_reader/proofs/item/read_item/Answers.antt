@@ -18,13 +18,18 @@ pub returns-then-not-known : goal.returns-then-not-known
 returns-then-not-known c =
     let shallow = c.is_shallow.ensures.shallow c.if-not-is_shallow.false in
     let distinct = subst AreDistinct c.requires.names c.requires.generators.distinct in
-    let checked = subst (λ (names : List (List ℕ)). IsChecked names c.args.line.now false) c.requires.names (rw c.if-not-known.true at c.in_ok-known.ensures) in
+    let checked =
+    subst (λ (names : List (List ℕ)). IsChecked names c.args.line.now false) c.requires.names
+    (rw c.if-not-known.true at c.in_ok-known.ensures) in
     unknown_fault c.args.pres.now distinct c.args.line.now checked.rest checked.keyword checked.front shallow checked.form checked.tells
 
 pub returns : goal.returns
 returns c =
     let shallow = c.is_shallow.ensures.shallow c.if-not-is_shallow.false in
     let distinct = subst AreDistinct c.requires.names c.requires.generators.distinct in
-    let checked = subst (λ (names : List (List ℕ)). IsChecked names c.args.line.now true) c.requires.names (rw c.if-not-known.false at c.in_ok-known.ensures) in
+    let checked =
+    subst (λ (names : List (List ℕ)). IsChecked names c.args.line.now true) c.requires.names
+    (rw c.if-not-known.false at c.in_ok-known.ensures) in
     let known = known_body c.args.pres.now distinct c.args.line.now checked.rest checked.keyword checked.front checked.form checked.tells in
-    item_answers c.args.pres.now c.args.line.now c.read_formed.result shallow checked.form known (c.read_formed.ensures checked.form.tree checked.form.spelled)
+    item_answers c.args.pres.now c.args.line.now c.read_formed.result shallow checked.form known
+    (c.read_formed.ensures checked.form.tree checked.form.spelled)

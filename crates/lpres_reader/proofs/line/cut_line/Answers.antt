@@ -12,5 +12,6 @@ returns-in-Some-clause-lines c =
     let text = c.args.text.now in
     let at = c.in-Some.at in
     let first = lines_of-first text at (sym c.in-Some.ensures) in
-    let whole : take (length text - (at + 1)) (drop (at + 1) text) ≡ drop (at + 1) text = take_all _ (drop (at + 1) text) (omega (arith, length-drop (at + 1) text)) in
+    let whole : take (length text - (at + 1)) (drop (at + 1) text) ≡ drop (at + 1) text =
+    take_all _ (drop (at + 1) text) (omega (arith, length-drop (at + 1) text)) in
     first.0 ∙ ap (λ (rest : List ℕ). take at text ∷ lines_of rest) (sym whole)

@@ -16,9 +16,11 @@ loop-i-preserved c =
     let names = c.args.names.now in
     let i = c.loop-i.i in
     let others = rw (take_rest names (i + 1)) at c.if-contains.ensures.cases in
-    let here : get_or names i [] ≡ c.index-names-i.result = get_or_default names i [] c.index-names-i.result c.loop-i-test.true ∙ sym c.index-names-i.is in
+    let here : get_or names i [] ≡ c.index-names-i.result =
+    get_or_default names i [] c.index-names-i.result c.loop-i-test.true ∙ sym c.index-names-i.is in
     record {
-      each = rw (take_more names i [] c.loop-i-test.true, here) (All-push IsName (take i names) c.index-names-i.result c.loop-i.invariant.each c.bytes-bytes.ensures.name);
+      each = rw (take_more names i [] c.loop-i-test.true, here)
+          (All-push IsName (take i names) c.index-names-i.result c.loop-i.invariant.each c.bytes-bytes.ensures.name);
       distinct = λ j k h l m. elim (cases_lt j i) [
         | inl before ↦ c.loop-i.invariant.distinct j k before l m
         | inr after ↦

@@ -10,7 +10,8 @@ returns-then-len-generators c =
     let i = c.loop-images.images-index in
     let l = c.loop-images-test.true in
     let count : c.len.result ≡ length images.items = omega arith in
-    images_missing c.args.generators c.args.before (map (λ f. f.items) endos) images.items i (items_within endos i l) (items_at endos images i l c.images-item.is)
+    images_missing c.args.generators c.args.before (map (λ f. f.items) endos) images.items i (items_within endos i l)
+    (items_at endos images i l c.images-item.is)
     (λ e. c.if-len-generators.true (count ∙ e))
 
 pub returns-in_err-letters : goal.returns-in_err-letters
@@ -21,7 +22,8 @@ returns-in_err-letters c =
     let l = c.loop-images-test.true in
     let outside = rw c.deref.ensures.value at c.in_err-letters.ensures in
     rw c.from_residual.ensures
-    (images_not_kept c.args.generators c.args.before (map (λ f. f.items) endos) images.items i (items_within endos i l) (items_at endos images i l c.images-item.is)
+    (images_not_kept c.args.generators c.args.before (map (λ f. f.items) endos) images.items i (items_within endos i l)
+    (items_at endos images i l c.images-item.is)
     c.loop-images.letters c.loop-images.invariant outside)
 
 pub loop-images-preserved : goal.loop-images-preserved
@@ -32,5 +34,6 @@ loop-images-preserved c =
     let l = c.loop-images-test.true in
     let count : length images.items ≡ c.args.generators = omega arith in
     let words = rw c.deref.ensures.value at c.in_ok-letters.ensures in
-    one_endo_more c.args.generators c.args.before (map (λ f. f.items) endos) images.items i (items_within endos i l) (items_at endos images i l c.images-item.is)
+    one_endo_more c.args.generators c.args.before (map (λ f. f.items) endos) images.items i (items_within endos i l)
+    (items_at endos images i l c.images-item.is)
     c.loop-images.letters c.in_ok-letters.letters c.loop-images.invariant count words

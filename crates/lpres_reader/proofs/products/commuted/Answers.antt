@@ -8,4 +8,9 @@ use Rattle.lpres_reader.proofs.products.commuted.Goals as goal
 pub returns-in_err-check_letters : goal.returns-in_err-check_letters
 returns-in_err-check_letters c =
     let p = err_from_is_err_and c.from_residual.result c.from_residual.ensures.1 in
-    rw (p.1, p.2) (too_long_given (comm c.args.first c.args.second) _ c.in_err-check_letters.field-0.0 (omega (arith, c.letters.ensures.letters, c.letters-2.ensures.letters, length-comm c.args.first c.args.second)) c.in_err-check_letters.ensures)
+    rw (
+      p.1,
+      p.2,
+    ) (too_long_given (comm c.args.first c.args.second) _ c.in_err-check_letters.field-0.0
+    (omega (arith, c.letters.ensures.letters, c.letters-2.ensures.letters, length-comm c.args.first c.args.second))
+    c.in_err-check_letters.ensures)

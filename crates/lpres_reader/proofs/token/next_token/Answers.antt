@@ -7,7 +7,9 @@ pub returns-in-empty : goal.returns-in-empty
 returns-in-empty c = front_nothing c.args.line.now c.after_blanks-line.result.now c.after_blanks-line.ensures (omega arith)
 
 pub returns-in_ok-token_at-in-len1-up : goal.returns-in_ok-token_at-in-len1-up
-returns-in_ok-token_at-in-len1-up c = let h = front_byte c.args.line.now c.after_blanks-line.result.now c.after_blanks-line.ensures (omega arith) in h ∙ c.in_ok-token_at-in-len1-up.ensures
+returns-in_ok-token_at-in-len1-up c =
+    let h = front_byte c.args.line.now c.after_blanks-line.result.now c.after_blanks-line.ensures (omega arith) in
+    h ∙ c.in_ok-token_at-in-len1-up.ensures
 
 pub returns-in_err-token_at-in-len1-up : goal.returns-in_err-token_at-in-len1-up
 returns-in_err-token_at-in-len1-up c =

@@ -5,4 +5,5 @@ use Rattle.lpres_reader.proofs.writing.push_power.Goals as goal
 
 pub loop-preserved : goal.loop-preserved
 loop-preserved c =
-    rw (c.in_ok-push_signed.ensures, c.loop.invariant, copies_more (signed c.args.inverted c.args.word.now) c.loop.counter, append_assoc) refl
+    rw (c.in_ok-push_signed.ensures, c.loop.invariant, copies_more (signed c.args.inverted c.args.word.now) c.loop.counter, append_assoc)
+    refl

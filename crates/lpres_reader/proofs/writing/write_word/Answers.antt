@@ -15,7 +15,9 @@ loop-step-preserved c =
     let ss = c.steps-step-items.result.now in
     let i = c.loop-step.step-index in
     record {
-      written = ap (λ (out : List ℤ). written out (drop (i + 1) ss)) c.in_ok-take_step.ensures.written ∙ sym (written-next c.loop-step.out.items ss i _ c.loop-step-test.true) ∙ c.loop-step.invariant.written;
+      written =
+          ap (λ (out : List ℤ). written out (drop (i + 1) ss)) c.in_ok-take_step.ensures.written
+          ∙ sym (written-next c.loop-step.out.items ss i _ c.loop-step-test.true) ∙ c.loop-step.invariant.written;
       letters = c.in_ok-take_step.ensures.letters;
     }
 

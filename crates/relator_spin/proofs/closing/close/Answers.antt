@@ -9,7 +9,8 @@ made : (c : goal.After-drop-work-inside-2)
     → IsMade c.args.basis c.args.rows.now c.args.matrices.now c.work-2.inside.basis c.work-2.inside.spun.items
 made c =
     let reserved = c.in_ok-reserve.ensures.ok in
-    let start : Spinning = record { older = c.rank-older.result; basis = c.reserve.new.self; spun = c.new.result.items; image = c.in_ok-image.image } in
+    let start : Spinning =
+    record { older = c.rank-older.result; basis = c.reserve.new.self; spun = c.new.result.items; image = c.in_ok-image.image } in
     let first = c.in_ok-take_rows.ensures in
     let second = c.in_ok-take_images.ensures in
     let whole = is_made c.args.rows.now c.args.matrices.now start c.take_rows.new.self c.take_images.new.self c.prime.ensures.basis
@@ -20,7 +21,8 @@ made c =
     subst (λ (w : Spinning). IsMade c.args.basis c.args.rows.now c.args.matrices.now w.basis w.spun) (sym c.work-2.view_is)
     (IsMade-roomy c.args.basis (max c.args.basis.spare (c.width.result - c.rank-older.result)) c.args.rows.now c.args.matrices.now
     c.take_images.new.self.basis c.take_images.new.self.spun
-    (subst (λ (b : Echelon). IsMade b c.args.rows.now c.args.matrices.now c.take_images.new.self.basis c.take_images.new.self.spun) reserved whole))
+    (subst (λ (b : Echelon). IsMade b c.args.rows.now c.args.matrices.now c.take_images.new.self.basis c.take_images.new.self.spun) reserved
+    whole))
 
 pub returns-clause-names : goal.returns-clause-names
 returns-clause-names c = (made c).names

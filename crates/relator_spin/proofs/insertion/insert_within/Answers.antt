@@ -15,7 +15,8 @@ returns-then-spare-eq0-clause-in_span c =
     let count = basis.count in
     let row : IsRow p width c.args.row.now.entries =
     subst (λ (q : ℕ). IsRow q width c.args.row.now.entries) c.requires.prime
-    (subst (λ (v : ℕ). IsRow c.args.row.now.prime v c.args.row.now.entries) (c.width-width.ensures.width ∙ c.requires.width) c.width-width.ensures.row) in
+    (subst (λ (v : ℕ). IsRow c.args.row.now.prime v c.args.row.now.entries)
+    (c.width-width.ensures.width ∙ c.requires.width) c.width-width.ensures.row) in
     let full : width ≤ length c.args.basis.now.rows = omega (arith, c.requires.room, c.spare.ensures.spare, c.if-spare-eq0.true) in
     (basis_spans c.args.basis.now basis c.args.row.now.entries).1
     (full-spans p width c.args.basis.now.rows basis.reduced (omega arith) full c.args.row.now.entries row)
@@ -28,6 +29,7 @@ returns-in-Added-clause-in_span c =
     let two = basis.prime in
     let row : IsRow p width c.args.row.now.entries =
     subst (λ (q : ℕ). IsRow q width c.args.row.now.entries) c.requires.prime
-    (subst (λ (v : ℕ). IsRow c.args.row.now.prime v c.args.row.now.entries) (c.width-width.ensures.width ∙ c.requires.width) c.width-width.ensures.row) in
+    (subst (λ (v : ℕ). IsRow c.args.row.now.prime v c.args.row.now.entries)
+    (c.width-width.ensures.width ∙ c.requires.width) c.width-width.ensures.row) in
     subst (λ (l : List (List ℕ)). InSpan p width l c.args.row.now.entries) (sym c.in-Added.ensures.added)
     (InSpan-last p width c.args.basis.now.added c.args.row.now.entries (omega arith) basis.added row)

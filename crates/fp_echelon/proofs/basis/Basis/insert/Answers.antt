@@ -15,6 +15,7 @@ returns-then-is_zero-clause-dependent c =
       | then-is_zero-via-then-is_zero w ↦
           let zero_row : c.args.row.now.entries ≡ zeros B.width =
           IsZeroRow-is_zeros c.args.row.now.entries (c.is_zero.ensures.0 w.if-is_zero.true) ∙ ap zeros c.requires.width in
-          subst (λ (x : List ℕ). InSpan B.prime B.width B.added x) (sym zero_row) (InSpan-zeros B.prime B.width B.added (omega arith) basis.added)
+          subst (λ (x : List ℕ). InSpan B.prime B.width B.added x) (sym zero_row)
+          (InSpan-zeros B.prime B.width B.added (omega arith) basis.added)
       | then-is_zero-via-else-is_zero+then-reduces_to_zero w ↦ w.reduces_to_zero.ensures.span w.if-reduces_to_zero.true
     ]

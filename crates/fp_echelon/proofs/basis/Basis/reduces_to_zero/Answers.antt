@@ -17,17 +17,21 @@ reduce-requires-clause-slots c =
 
 pub reduce-requires-clause-pivots : goal.reduce-requires-clause-pivots
 reduce-requires-clause-pivots c =
-    pivots_to_reduce (prime_value c.self.inside.prime) c.self.inside.width c.self.inside.rank c.self.inside.spare c.self.inside.entries.items
+    pivots_to_reduce (prime_value c.self.inside.prime) c.self.inside.width c.self.inside.rank c.self.inside.spare
+    c.self.inside.entries.items
     c.args.self.now c.self.view_is c.self.invariant.0 c.deref.result.now c.deref.ensures.value c.copy_from.new.self
     (ap (λ (r : PrimeRow). r.prime) c.copy_from.ensures ∙ c.requires.prime)
     (ap (λ (r : PrimeRow). length r.entries) c.copy_from.ensures ∙ c.requires.width)
 
 pub invariant_of-self : goal.invariant_of-self
 invariant_of-self c =
-    let row = subst (λ (w : ℕ). IsRow c.args.row.now.prime w c.args.row.now.entries) c.width-width.ensures.width c.width-width.ensures.row in
+    let row =
+    subst (λ (w : ℕ). IsRow c.args.row.now.prime w c.args.row.now.entries) c.width-width.ensures.width c.width-width.ensures.row in
     let left =
-    representative_left (prime_value c.self.inside.prime) c.self.inside.width c.self.inside.rank c.self.inside.spare c.self.inside.entries.items
-    c.args.self.now c.self.view_is c.self.invariant.0 c.deref.result.now c.deref.ensures.value c.args.row.now c.requires.prime c.requires.width
+    representative_left (prime_value c.self.inside.prime) c.self.inside.width c.self.inside.rank c.self.inside.spare
+    c.self.inside.entries.items
+    c.args.self.now c.self.view_is c.self.invariant.0 c.deref.result.now c.deref.ensures.value c.args.row.now c.requires.prime
+    c.requires.width
     c.reduce.new.row row (c.reduce.ensures c.self.inside.rank ∙ ap (λ (r : PrimeRow). record r {
       entries = reduce_by r.prime (all_seen c.self.inside.rank (take c.self.inside.rank c.deref.result.now)) r.entries;
     }) c.copy_from.ensures) in (
@@ -41,9 +45,11 @@ invariant_of-self c =
 
 pub returns-clause-span : goal.returns-clause-span
 returns-clause-span c = λ t.
-    let row = subst (λ (w : ℕ). IsRow c.args.row.now.prime w c.args.row.now.entries) c.width-width.ensures.width c.width-width.ensures.row in
+    let row =
+    subst (λ (w : ℕ). IsRow c.args.row.now.prime w c.args.row.now.entries) c.width-width.ensures.width c.width-width.ensures.row in
     zero_in_span (prime_value c.self.inside.prime) c.self.inside.width c.self.inside.rank c.self.inside.spare c.self.inside.entries.items
-    c.args.self.now c.self.view_is c.self.invariant.0 c.deref.result.now c.deref.ensures.value c.args.row.now c.requires.prime c.requires.width
+    c.args.self.now c.self.view_is c.self.invariant.0 c.deref.result.now c.deref.ensures.value c.args.row.now c.requires.prime
+    c.requires.width
     c.reduce.new.row row (c.reduce.ensures c.self.inside.rank ∙ ap (λ (r : PrimeRow). record r {
       entries = reduce_by r.prime (all_seen c.self.inside.rank (take c.self.inside.rank c.deref.result.now)) r.entries;
     }) c.copy_from.ensures)

@@ -25,4 +25,5 @@ returns-clause-row c =
 
 pub returns-clause-pivot : goal.returns-clause-pivot
 returns-clause-pivot c =
-    (row_found c.args.self.now (subst (λ (B : Echelon). IsBasis B) c.self.view_is c.self.invariant.0.basis) c.args.column c.requires).pivot_row
+    (row_found c.args.self.now (subst (λ (B : Echelon). IsBasis B) c.self.view_is c.self.invariant.0.basis) c.args.column
+    c.requires).pivot_row

@@ -16,6 +16,7 @@ invariant_of-self c =
     (subst (λ (l : List ℕ). AllBelow c.self.inside.row.prime l) (sym c.deref_mut.ensures.value) c.self.invariant.1) in (
       c.self.invariant.0 ∙ sym same,
       AllBelow-added c.add_scaled.new.self.prime (prime_value c.prime.result) c.args.count c.self.inside.coefficients.len c.args.k
-          c.add_to_front.new.xs (drop (length c.add_to_front.new.xs) c.self.inside.coefficients.items) c.deref_mut.result.now c.deref.result.now
+          c.add_to_front.new.xs (drop (length c.add_to_front.new.xs) c.self.inside.coefficients.items) c.deref_mut.result.now
+          c.deref.result.now
           some c.prime.ensures.prime (omega arith) below c.add_to_front.ensures,
     )

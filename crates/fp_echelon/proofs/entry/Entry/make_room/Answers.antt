@@ -11,5 +11,6 @@ invariant_of-self-2 c =
     let kept = AllBelow-take c.self.inside.row.prime c.max-room.result c.self.inside.coefficients.items c.self.invariant.1 in (
       c.self.invariant.0,
       subst (λ (l : List ℕ). AllBelow c.self.inside.row.prime l) (sym c.in_ok-resize.ensures.items)
-          (AllBelow-grown c.self.inside.row.prime (c.max-room.result - vec_len c.self.inside.coefficients) (take c.max-room.result c.self.inside.coefficients.items) some kept),
+          (AllBelow-grown c.self.inside.row.prime (c.max-room.result - vec_len c.self.inside.coefficients)
+          (take c.max-room.result c.self.inside.coefficients.items) some kept),
     )

@@ -8,4 +8,5 @@ use Rattle.fp_echelon.proofs.matrix.Matrix.apply.Goals as goal
 pub returns-clause-matrix : goal.returns-clause-matrix
 returns-clause-matrix c =
     subst IsMatrix c.self.view_is
-    (IsMatrix-held (prime_value c.self.inside.prime) c.self.inside.width c.self.inside.rows.items (prime_value-two c.self.inside.prime) c.self.invariant)
+    (IsMatrix-held (prime_value c.self.inside.prime) c.self.inside.width c.self.inside.rows.items
+    (prime_value-two c.self.inside.prime) c.self.invariant)

@@ -9,7 +9,8 @@ use Rattle.fp_echelon.proofs.matrix.Matrix.new.Goals as goal
 
 pub invariant_of-result : goal.invariant_of-result
 invariant_of-result c =
-    HoldsMatrix-new (prime_value c.args.prime) c.args.width c.in_ok-zero_rows.field-0.items (prime_value-pos c.args.prime) c.in_ok-zero_rows.ensures
+    HoldsMatrix-new (prime_value c.args.prime) c.args.width c.in_ok-zero_rows.field-0.items
+    (prime_value-pos c.args.prime) c.in_ok-zero_rows.ensures
 
 pub returns : goal.returns
 returns c =

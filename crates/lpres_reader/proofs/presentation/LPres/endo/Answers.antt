@@ -20,7 +20,8 @@ returns-clause-images c = images c
 pub returns-clause-words : goal.returns-clause-words
 returns-clause-words c =
     let pres = subst IsLPresentation c.self.view_is c.self.invariant.1 in
-    subst (AreWords (length c.args.self.now.names)) (sym (images c)) (AreWords-endo_at (length c.args.self.now.names) c.args.self.now.endos c.args.number pres.endo_words)
+    subst (AreWords (length c.args.self.now.names)) (sym (images c))
+    (AreWords-endo_at (length c.args.self.now.names) c.args.self.now.endos c.args.number pres.endo_words)
 
 pub returns-clause-count : goal.returns-clause-count
 returns-clause-count c =

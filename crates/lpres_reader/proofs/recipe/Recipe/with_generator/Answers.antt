@@ -10,4 +10,5 @@ invariant_of-result c =
 pub returns : goal.returns
 returns c =
     let small : c.self.inside.letters < 65536 = omega (arith, c.self.invariant.count, ap length c.self.view_is, c.requires.limit) in
-    rw (c.in_ok-push.ensures.items, ← c.self.view_is) ((recipe-push c.self.inside.steps.items c.self.inside.letters c.args.place c.self.invariant small).0)
+    rw (c.in_ok-push.ensures.items, ← c.self.view_is)
+    ((recipe-push c.self.inside.steps.items c.self.inside.letters c.args.place c.self.invariant small).0)

@@ -8,13 +8,15 @@ loop-place-init c = RowsTaken-none c.args.rows.now c.args.self.now c.requires.re
 
 pub take_row-requires-clause-prime : goal.take_row-requires-clause-prime
 take_row-requires-clause-prime c =
-    let over = AreOver-at c.args.self.now.basis.prime c.args.self.now.basis.width c.args.rows.now c.loop-place.place c.index-rows-place.result
+    let over =
+    AreOver-at c.args.self.now.basis.prime c.args.self.now.basis.width c.args.rows.now c.loop-place.place c.index-rows-place.result
     c.loop-place-test.true c.requires.rows in
     ap (λ (r : PrimeRow). r.prime) c.index-rows-place.is ∙ over.prime ∙ sym c.loop-place.invariant.grown.prime
 
 pub take_row-requires-clause-width : goal.take_row-requires-clause-width
 take_row-requires-clause-width c =
-    let over = AreOver-at c.args.self.now.basis.prime c.args.self.now.basis.width c.args.rows.now c.loop-place.place c.index-rows-place.result
+    let over =
+    AreOver-at c.args.self.now.basis.prime c.args.self.now.basis.width c.args.rows.now c.loop-place.place c.index-rows-place.result
     c.loop-place-test.true c.requires.rows in
     ap (λ (r : PrimeRow). length r.entries) c.index-rows-place.is ∙ over.wide ∙ sym c.loop-place.invariant.grown.width
 
@@ -26,4 +28,5 @@ loop-place-preserved c =
 
 pub returns-clause-in_span : goal.returns-clause-in_span
 returns-clause-in_span c =
-    RowsTaken-all c.args.rows.now c.args.self.now c.loop-place.self c.loop-place.place (omega (arith, c.loop-place-test.false)) c.loop-place.invariant
+    RowsTaken-all c.args.rows.now c.args.self.now c.loop-place.self c.loop-place.place
+    (omega (arith, c.loop-place-test.false)) c.loop-place.invariant

@@ -19,14 +19,14 @@ loop-k-preserved g c =
     ∙ ap (λ (A : Answer). A.presentation.rank) c.answer.ensures in
     let inside : k < C.answer.presentation.rank = omega (arith, c.loop-k-test.true, rank) in
     let place : k + 1 - 1 ≡ k = omega arith in
-    let definition : definition_of c.definition.result ≡ definition_at C.answer k =
-    c.definition.ensures ∙ ap (λ (A : Answer). definition_at A (k + 1 - 1)) c.answer-in-loop-k.ensures
+    let definition : definition_of c.definition-source.result ≡ definition_at C.answer k =
+    c.definition-source.ensures ∙ ap (λ (A : Answer). definition_at A (k + 1 - 1)) c.answer-in-loop-k.ensures
     ∙ ap (definition_at C.answer) place in
     let more : c.push.new.self.items ≡ es ++ e ∷ [] = c.in_ok-push.ensures.items in
     let long : length (es ++ e ∷ []) ≡ length es + 1 = omega (arith, length-append es (e ∷ [])) in (
       c.left_value.ensures.scratch,
       ap (λ (fs : List Element). length fs) more ∙ long ∙ ap (λ (n : ℕ). n + 1) inv.1,
       spelled-more C endo es inv.2 c.push.new.self.items e more
-          (next-spelled C endo c.pcp-in-loop-k.ensures.cover.answer k (length es) (definition_of c.definition.result) e inside inv.1
+          (next-spelled C endo c.pcp-in-loop-k.ensures.cover.answer k (length es) (definition_of c.definition-source.result) e inside inv.1
           definition c.left_value.ensures.value),
     )

@@ -1,6 +1,6 @@
 //! The kept columns of a basis, and what becomes of a tail: a combination of the kept ones.
 
-ghost use Rattle.std.specs.Prelude.{◌≡◌, ◌≤◌, ◌-◌, ◌++◌, ◌∷◌, [], cond, eqb, map, get_or, length, All, IfOk, OnOk};
+ghost use Rattle.std.specs.Prelude.{◌≡◌, ◌≤◌, ◌-◌, map, get_or, length, All, IfOk};
 ghost use Rattle.pq_base.specs.Limits.{max_rank};
 ghost use Rattle.fp_rows.specs.Row.{at_column, IsColumn};
 ghost use Rattle.fp_echelon.specs.Reduction.{negative};
@@ -8,6 +8,7 @@ ghost use Rattle.pc_presentation.specs.Syllable.{syllables_of};
 ghost use Rattle.cover_quotient.specs.Kept.{kept_columns, kept_rows, kept_combinations};
 
 use cover_quotient::Combinations;
+use cover_quotient::kept_words::{push_power, unit_word};
 use fp_echelon::Basis;
 use fp_rows::Row;
 use pc_presentation::Syllable;
@@ -86,37 +87,4 @@ fn negated(row: &Row, column: u16) -> u8
 {
     let prime = row.prime().value();
     (prime - row.get(column)) % prime
-}
-
-/// The kept tail as a word.
-fn unit_word(alloc: Global, kept: &[u16], tail: u16) -> Result<Vec<Syllable>, NoMemory>
-    requires limit { length kept.now ≤ max_rank }
-    ensures { IfOk result (λ v. v.items ≡ syllables_of 0 (map (λ c. cond (eqb tail c) 1 0) kept.now)) }
-{
-    let mut word = Vec::new(alloc);
-    for k in 0..kept.len() {
-        push_power(&mut word, k as u16 + 1, unit_entry(tail, kept[k]))?;
-    }
-    Ok(word)
-}
-
-/// 1 at the tail's own column, and 0 elsewhere.
-fn unit_entry(tail: u16, column: u16) -> u8
-    ensures { result ≡ cond (eqb tail column) 1 0 }
-{
-    if tail == column { 1 } else { 0 }
-}
-
-/// Puts a generator, counted from 1, to an exponent at the end of a word, unless the exponent is 0.
-fn push_power(word: &mut Vec<Syllable>, generator: u16, exponent: u8) -> Result<(), NoMemory>
-    requires { 1 ≤ generator }
-    ensures { OnOk result (word.new.items ≡ word.old.items ++ syllables_of (generator - 1) (exponent ∷ [])) }
-{
-    if exponent != 0 {
-        word.push(Syllable {
-            generator,
-            exponent,
-        })?;
-    }
-    Ok(())
 }

@@ -5,6 +5,7 @@
 #![tactic(auto)]
 
 pub mod combinations;
+pub mod kept_words;
 pub mod laws_of_answers;
 pub mod laws_of_canonical_answers;
 pub mod laws_of_fitting;

@@ -2,7 +2,7 @@ use Rattle.std.proofs.Common.{cond, eqb, ◌≡◌, ◌+◌, ◌-◌, ◌++◌, 
 use Rattle.std.proofs.lemmas.List.{get_or_default}
 use Rattle.pc_presentation.specs.Syllable.{syllables_of}
 use Rattle.pc_presentation.proofs.presentations.SyllableParts.{written-more}
-use Rattle.class_step.proofs.kept.unit_word.Goals as goal
+use Rattle.cover_quotient.proofs.kept_words.unit_word.Goals as goal
 
 pub loop-k-preserved : goal.loop-k-preserved
 loop-k-preserved c =

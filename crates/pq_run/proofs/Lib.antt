@@ -11,6 +11,7 @@ pub mod Headlines
 pub mod WordsEnds
 pub mod InputEnds
 pub mod TooLargeRanks
+pub mod OneRefusals
 pub mod RefusalEnds
 pub mod OutputEnds
 pub mod SampleOutputs

@@ -12,7 +12,7 @@ use Rattle.pq_run.specs.Kinds.{IsTooLargeFor, OneTooLarge, IsLargeSampleFor, One
 use Rattle.pq_run.proofs.Commands.{one_command, AtPrimeAndClass-both, AtSample-both}
 use Rattle.pq_run.proofs.Texts.{one_large_rank, one_large_order}
 
-prime_value-above : (p : Prime) → 1 < prime_value p
+pub prime_value-above : (p : Prime) → 1 < prime_value p
 prime_value-above P2 = omega arith
 prime_value-above P3 = omega arith
 prime_value-above P5 = omega arith

@@ -1,6 +1,6 @@
 -- What it takes for a command to be refused. Want of memory needs no cause but that there is a command.
 -- From: this project's own commands.
-use Rattle.std.specs.Prelude.{◌≡◌, ◌⊎◌, ℕ, List, IfSome}
+use Rattle.std.specs.Prelude.{◌≡◌, ◌⊎◌, ℕ, List, Some, IfSome}
 use Rattle.pq_base.specs.LPresentation.{LPresentation}
 use Rattle.pq_io.specs.Faults.{Rose}
 use Rattle.derivation_log.specs.declared.source.Run.TheVariants.{Whole}
@@ -107,3 +107,15 @@ IsCause words r NoMemory = AreCommandWords words
 abbrev pub OneCertRefusal : Type 0
 OneCertRefusal = (bytes : List ℕ) (one other : Refusal) → IsCertificateTextCause bytes one → IsCertificateTextCause bytes other
     → one ≡ other
+
+-- a refusal that the words and the input decide: neither want of memory nor a read that failed
+abbrev pub IsOfInput : Refusal → Type 0
+IsOfInput ReadFault = ⊥
+IsOfInput NoMemory = ⊥
+IsOfInput _ = Unit {0}
+
+-- the words and the bytes determine what a command is refused for, and so the line and the status, where no read failed and no memory
+-- was wanting: the causes of two refusals, of one run or of two, are causes of one
+abbrev pub OneRefusal : Type 0
+OneRefusal = (words : List (List ℕ)) (bytes : List ℕ) (r s : Reading) (one other : Refusal) → r.left ≡ Some bytes → s.left ≡ Some bytes
+    → IsOfInput one → IsOfInput other → IsCause words r one → IsCause words s other → one ≡ other

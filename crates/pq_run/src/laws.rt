@@ -1,7 +1,7 @@
 //! What is proved of the outputs and refusals of commands alone.
 
 ghost use Rattle.pq_run.specs.Kinds.{OneTooLarge, OneLargeSample};
-ghost use Rattle.pq_run.specs.Cause.{OneCertRefusal};
+ghost use Rattle.pq_run.specs.Cause.{OneCertRefusal, OneRefusal};
 ghost use Rattle.pq_run.specs.Output.{OneOutput, OneOutputOneAnswer, OneOutputOneCertificate, OneCertifiedAnswer, CertifiesWhatIsWritten};
 ghost use Rattle.pq_run.specs.Output.{ChecksWhatIsCertified};
 
@@ -39,4 +39,10 @@ pub fn checks_what_is_certified()
 /// The bytes of a certificate's input determine what they are refused for, so also the line.
 pub fn one_cert_refusal()
     ensures { OneCertRefusal }
+{}
+
+/// The words and the bytes determine what a command is refused for, so also its status and the line, unless a read failed or memory
+/// was wanting.
+pub fn one_refusal()
+    ensures { OneRefusal }
 {}

@@ -53,19 +53,8 @@ fn next_weights(alloc: Global, answer: &Answer, count: usize) -> Result<Vec<u8>,
     requires { class_of answer.now < max_class }
     ensures { IfOk result (λ v. v.items ≡ answer.now.weights ++ replicate count (suc (class_of answer.now))) }
 {
-    let mut weights = weights_of(alloc, answer.pcp())?;
+    let mut weights = Vec::from_slice(alloc, answer.pcp().weights())?;
     push_copies(&mut weights, answer.class() + 1, count)?;
-    Ok(weights)
-}
-
-/// The weights of all generators.
-fn weights_of(alloc: Global, pcp: &Pcp) -> Result<Vec<u8>, NoMemory>
-    ensures { IfOk result (λ v. v.items ≡ pcp.now.weights) }
-{
-    let mut weights = Vec::new(alloc);
-    for k in 0..pcp.rank() {
-        weights.push(pcp.weight(k + 1))?;
-    }
     Ok(weights)
 }
 

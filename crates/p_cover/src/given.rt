@@ -40,19 +40,7 @@ fn empty_builder(
 {
     let pcp = answer.pcp();
     let _rank = pcp.rank();
-    let weights = weights(alloc, pcp)?;
-    PcpBuilder::new(alloc, pcp.prime(), &weights, sources.len() as u16)
-}
-
-/// The weights of all generators.
-fn weights(alloc: Global, pcp: &Pcp) -> Result<Vec<u8>, NoMemory>
-    ensures { IfOk result (λ v. v.items ≡ pcp.now.weights) }
-{
-    let mut weights = Vec::new(alloc);
-    for k in 0..pcp.rank() {
-        weights.push(pcp.weight(k + 1))?;
-    }
-    Ok(weights)
+    PcpBuilder::new(alloc, pcp.prime(), pcp.weights(), sources.len() as u16)
 }
 
 /// Gives the relations on the list, each with its place as its tail.

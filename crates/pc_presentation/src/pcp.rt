@@ -79,7 +79,7 @@ impl Pcp {
     }
 
     /// The weights of all generators.
-    pub(crate) fn weights(&self) -> &[u8]
+    pub fn weights(&self) -> &[u8]
         ensures { result.now ≡ self.now.weights }
     {
         self.weights.as_slice()

@@ -1,12 +1,13 @@
 //! The presentation of the next answer, relation by relation.
 
-ghost use Rattle.std.specs.Prelude.{◌<◌, ◌≡◌, ◌≤◌, ◌+◌, ◌-◌, ◌++◌, suc, None, replicate, length, IfOk, OnOk};
+ghost use Rattle.std.specs.Prelude.{◌<◌, ◌≡◌, ◌≤◌, ◌+◌, ◌++◌, suc, None, replicate, IfOk, OnOk};
 ghost use Rattle.pq_base.specs.Limits.{max_class};
 ghost use Rattle.pq_base.specs.Answer.{class_of};
 ghost use Rattle.pc_presentation.specs.Relation.{IsRelation};
 ghost use Rattle.pc_presentation.specs.Builder.{extended};
+ghost use Rattle.pc_presentation.specs.Pcp.{side_word};
 ghost use Rattle.cover_quotient.specs.NextAnswer.{combined_answer};
-ghost use Rattle.cover_quotient.specs.NextParts.{word_in, IsDraft, Awaits, IsPresentationOf};
+ghost use Rattle.cover_quotient.specs.NextParts.{IsDraft, Awaits, IsPresentationOf};
 ghost use Rattle.cover_quotient.specs.Combinations.{AreCombinationsOf};
 
 use crate::combinations::Combinations;
@@ -137,7 +138,8 @@ fn give(
     requires combinations { AreCombinationsOf cover.now combinations.now }
     requires relation { IsRelation cover.now.answer.presentation.rank r }
     requires awaited { Awaits (combined_answer cover.now combinations.now) r builder.old }
-    ensures { OnOk result (builder.new ≡ extended builder.old r (word_in (combined_answer cover.now combinations.now) r) None) }
+    ensures { OnOk result
+        (builder.new ≡ extended builder.old r (side_word (combined_answer cover.now combinations.now).presentation r) None) }
 {
     let word = next_word(cover, combinations, r)?;
     let Err(refusal) = builder.relation(r, &word, None) else {
@@ -160,7 +162,7 @@ fn next_word(
 ) -> Result<Vec<Syllable>, NoMemory>
     requires combinations { AreCombinationsOf cover.now combinations.now }
     requires relation { IsRelation cover.now.answer.presentation.rank r }
-    ensures { IfOk result (λ v. v.items ≡ word_in (combined_answer cover.now combinations.now) r) }
+    ensures { IfOk result (λ v. v.items ≡ side_word (combined_answer cover.now combinations.now).presentation r) }
 {
     let _combinations = combinations.kept();
     let pcp = cover.pcp();

@@ -2,10 +2,11 @@
 
 ghost use Rattle.std.specs.Prelude.{◌≡◌, ◌≤◌, ◌<◌, ◌+◌, ◌-◌, ◌^◌, All, IfOk, OnOk, map, length};
 ghost use Rattle.pc_presentation.specs.Relation.{IsRelation, IsTail};
+ghost use Rattle.pc_presentation.specs.Pcp.{side_word};
 ghost use Rattle.p_cover.specs.Sources.{source_of, IsPartOf};
 ghost use Rattle.p_cover.specs.Covers.{covering, all_sources};
 ghost use Rattle.p_cover.specs.CoverLaws.{IsSource};
-ghost use Rattle.p_cover.specs.Given.{IsBegun, IsDraftOf, Gives, Completes, answer_word, IsPowerTo, IsCommutatorOf, IsCommutatorTo, IsAny};
+ghost use Rattle.p_cover.specs.Given.{IsBegun, IsDraftOf, Gives, Completes, IsPowerTo, IsCommutatorOf, IsCommutatorTo, IsAny};
 
 use crate::source::TailSource;
 use pc_presentation::{Answer, Pcp, PcpBuilder, PcpRefusal, Relation};
@@ -142,7 +143,7 @@ fn give(
     requires draft { IsDraftOf answer.now builder.old }
     requires tail { IsTail builder.old.built.tails tail }
     ensures draft { IsDraftOf answer.now builder.new }
-    ensures given { OnOk result (Gives builder.old builder.new r (answer_word answer.now r) tail) }
+    ensures given { OnOk result (Gives builder.old builder.new r (side_word answer.now.presentation r) tail) }
 {
     let Err(refusal) = builder.relation(r, answer.pcp().word(r), tail) else {
         return Ok(());

@@ -5,8 +5,8 @@ use Rattle.pq_base.specs.Answer.{Answer, Definition as Source}
 use Rattle.pc_presentation.specs.declared.syllable.Syllable.{Syllable}
 use Rattle.pc_presentation.specs.declared.relation.Relation.{Relation}
 use Rattle.pc_presentation.specs.declared.relation.Relation.TheVariants.{Power, Commutator}
-use Rattle.pc_presentation.specs.Syllable.{syllable, syllables_of}
-use Rattle.pc_presentation.specs.Relation.{IsRelation, side_start}
+use Rattle.pc_presentation.specs.Syllable.{syllable}
+use Rattle.pc_presentation.specs.Relation.{IsRelation}
 use Rattle.pc_presentation.specs.Pcp.{TailedPresentation, HasShape, sides_of, right_side}
 use Rattle.pc_presentation.specs.Builder.{Draft, WasGiven}
 use Rattle.p_cover.specs.Given.{IsDraftOf}
@@ -19,10 +19,6 @@ pub record IsPlace (ds : List Source) (k : ℕ) : Type 0 where
 -- a syllable of the generator that comes so many later
 abbrev pub shifted : ℕ → Syllable → Syllable
 shifted by s = syllable (by + s.generator) s.exponent
-
--- the right side of a relation as a sparse word
-abbrev pub word_in : Answer → Relation → List Syllable
-word_in A r = syllables_of (side_start r) (right_side A.presentation r)
 
 -- the powers of the first a of n generators, the commutators of the first b with those before them, and of the next one with
 -- the first c, and the relations of generators after the n

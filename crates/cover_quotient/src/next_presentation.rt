@@ -1,12 +1,13 @@
 //! The presentation of the next answer, relation by relation.
 
-ghost use Rattle.std.specs.Prelude.{◌<◌, ◌≡◌, ◌≤◌, ◌+◌, ◌-◌, ◌++◌, suc, None, replicate, length, IfOk, OnOk};
+ghost use Rattle.std.specs.Prelude.{◌<◌, ◌≡◌, ◌≤◌, ◌+◌, ◌++◌, suc, None, replicate, IfOk, OnOk};
 ghost use Rattle.pq_base.specs.Limits.{max_class};
 ghost use Rattle.pq_base.specs.Answer.{class_of};
 ghost use Rattle.pc_presentation.specs.Relation.{IsRelation};
 ghost use Rattle.pc_presentation.specs.Builder.{extended};
+ghost use Rattle.pc_presentation.specs.Pcp.{side_word};
 ghost use Rattle.cover_quotient.specs.NextAnswer.{combined_answer};
-ghost use Rattle.cover_quotient.specs.NextParts.{word_in, IsDraft, Awaits, IsPresentationOf};
+ghost use Rattle.cover_quotient.specs.NextParts.{IsDraft, Awaits, IsPresentationOf};
 ghost use Rattle.cover_quotient.specs.Combinations.{AreCombinationsOf};
 
 use crate::combinations::Combinations;
@@ -53,19 +54,8 @@ fn next_weights(alloc: Global, answer: &Answer, count: usize) -> Result<Vec<u8>,
     requires { class_of answer.now < max_class }
     ensures { IfOk result (λ v. v.items ≡ answer.now.weights ++ replicate count (suc (class_of answer.now))) }
 {
-    let mut weights = weights_of(alloc, answer.pcp())?;
+    let mut weights = Vec::from_slice(alloc, answer.pcp().weights())?;
     push_copies(&mut weights, answer.class() + 1, count)?;
-    Ok(weights)
-}
-
-/// The weights of all generators.
-fn weights_of(alloc: Global, pcp: &Pcp) -> Result<Vec<u8>, NoMemory>
-    ensures { IfOk result (λ v. v.items ≡ pcp.now.weights) }
-{
-    let mut weights = Vec::new(alloc);
-    for k in 0..pcp.rank() {
-        weights.push(pcp.weight(k + 1))?;
-    }
     Ok(weights)
 }
 
@@ -148,7 +138,8 @@ fn give(
     requires combinations { AreCombinationsOf cover.now combinations.now }
     requires relation { IsRelation cover.now.answer.presentation.rank r }
     requires awaited { Awaits (combined_answer cover.now combinations.now) r builder.old }
-    ensures { OnOk result (builder.new ≡ extended builder.old r (word_in (combined_answer cover.now combinations.now) r) None) }
+    ensures { OnOk result
+        (builder.new ≡ extended builder.old r (side_word (combined_answer cover.now combinations.now).presentation r) None) }
 {
     let word = next_word(cover, combinations, r)?;
     let Err(refusal) = builder.relation(r, &word, None) else {
@@ -171,7 +162,7 @@ fn next_word(
 ) -> Result<Vec<Syllable>, NoMemory>
     requires combinations { AreCombinationsOf cover.now combinations.now }
     requires relation { IsRelation cover.now.answer.presentation.rank r }
-    ensures { IfOk result (λ v. v.items ≡ word_in (combined_answer cover.now combinations.now) r) }
+    ensures { IfOk result (λ v. v.items ≡ side_word (combined_answer cover.now combinations.now).presentation r) }
 {
     let _combinations = combinations.kept();
     let pcp = cover.pcp();

@@ -12,13 +12,13 @@ use Rattle.pc_presentation.specs.declared.relation.Relation.{Relation}
 use Rattle.pc_presentation.specs.declared.relation.Relation.TheVariants.{Power as PowerOf, Commutator as CommutatorOf}
 use Rattle.pc_presentation.specs.Syllable.{spread}
 use Rattle.pc_presentation.specs.Relation.{IsRelation, side_start, relation_number}
-use Rattle.pc_presentation.specs.Pcp.{right_side, sides_of, tail_of}
+use Rattle.pc_presentation.specs.Pcp.{right_side, side_word, sides_of, tail_of}
 use Rattle.pc_presentation.specs.Builder.{Draft, WasGiven, extended}
 use Rattle.pc_presentation.proofs.presentations.RelationNumbers.{relation_number-injective}
-use Rattle.pc_presentation.proofs.presentations.SyllableLaws.{spread-syllables_of}
+use Rattle.pc_presentation.proofs.presentations.SideLaws.{spread-side_word}
 use Rattle.pc_presentation.proofs.normal_tables.EntryLaws.{with_entry-shape, entry_at-with_entry_same, entry_at-with_entry_other}
 use Rattle.p_cover.specs.Sources.{relation_source, place_in}
-use Rattle.p_cover.specs.Given.{IsFaithful, IsBegun, Gives, GoesOn, Completes, answer_word}
+use Rattle.p_cover.specs.Given.{IsFaithful, IsBegun, Gives, GoesOn, Completes}
 use Rattle.p_cover.proofs.PlaceLaws.{same_definition-eq, place_in-outside, place_from-first, same_power, same_first, same_second}
 
 power_no_commutator : (i j k : ℕ) → power i ≢ commutator j k
@@ -50,28 +50,12 @@ same_or_other n q r l h = elim (cases_eq (relation_number n q) (relation_number 
 ]
 
 module _ (A : Answer) (is : IsPresentation A.presentation) where
-  right_side-count : (r : Relation) → IsRelation A.presentation.rank r → side_start r + length (right_side A.presentation r) ≡ A.presentation.rank
-  right_side-count (PowerOf i) h =
-      let count = (is.power_sides (i - 1) (omega arith)).count in
-      omega arith
-  right_side-count (CommutatorOf j i) h =
-      let count = (is.commutator_sides (j - 1) (i - 1) (omega arith) (omega arith)).count in
-      omega arith
-
-  -- the sparse word of a right side stands for it
-  spread-answer_word : (r : Relation) (n : ℕ) → IsRelation A.presentation.rank r → n ≡ A.presentation.rank
-      → spread (n - side_start r) (side_start r) (answer_word A r) ≡ right_side A.presentation r
-  spread-answer_word r n h e =
-      let count = right_side-count r h in
-      let long : n - side_start r ≡ length (right_side A.presentation r) = omega arith in
-      ap (λ (m : ℕ). spread m (side_start r) (answer_word A r)) long ∙ spread-syllables_of (side_start r) (right_side A.presentation r)
-
   module _ (ds : List Source) (D : Draft) (f : IsFaithful A ds D) (r : Relation) (h : IsRelation A.presentation.rank r) (tail : Option ℕ) where
     abbrev longer : Draft
-    longer = extended D r (answer_word A r) tail
+    longer = extended D r (side_word A.presentation r) tail
 
     abbrev side : List ℕ
-    side = spread (D.built.presentation.rank - side_start r) (side_start r) (answer_word A r)
+    side = spread (D.built.presentation.rank - side_start r) (side_start r) (side_word A.presentation r)
 
     given_here : WasGiven longer r
     given_here = entry_at-with_entry_same A.presentation.rank D.given false f.given_shape r true h
@@ -98,7 +82,7 @@ module _ (A : Answer) (is : IsPresentation A.presentation) where
         | inl e ↦
             subst (λ (x : Relation). right_side longer.built.presentation x ≡ right_side A.presentation x) (sym e)
             (entry_at-with_entry_same A.presentation.rank (sides_of D.built.presentation) [] f.side_shape r side h
-            ∙ spread-answer_word r D.built.presentation.rank h f.rank)
+            ∙ spread-side_word A.presentation is r D.built.presentation.rank h f.rank)
         | inr ne ↦
             entry_at-with_entry_other A.presentation.rank (sides_of D.built.presentation) [] f.side_shape r side h q l ne
             ∙ f.sides q l (given_before q l ne g)
@@ -138,14 +122,14 @@ module _ (A : Answer) (is : IsPresentation A.presentation) where
         (ap (same_definition (relation_source r)) here ∙ same-definition_refl (relation_source r)))
 
     pub begun-more : (r : Relation) → get_or ds k (image 0) ≡ relation_source r → IsRelation A.presentation.rank r
-        → Gives D E r (answer_word A r) (Some (k + 1)) → IsBegun A ds (k + 1) E
+        → Gives D E r (side_word A.presentation r) (Some (k + 1)) → IsBegun A ds (k + 1) E
     begun-more r here h g = elim g [
       | inl new ↦
           subst (IsBegun A ds (k + 1)) (sym new.1) (record {
             faithful = faithful_extended ds D b.faithful r h (Some (k + 1)) (place_of_listed r here h new.0);
-            listed = up_to_here (extended D r (answer_word A r) (Some (k + 1))) (relation_source r) here
+            listed = up_to_here (extended D r (side_word A.presentation r) (Some (k + 1))) (relation_source r) here
                 (given_still ds D b.faithful r h (Some (k + 1)))
-                (λ q m e. subst (WasGiven (extended D r (answer_word A r) (Some (k + 1)))) (relation_source-injective r q e)
+                (λ q m e. subst (WasGiven (extended D r (side_word A.presentation r) (Some (k + 1)))) (relation_source-injective r q e)
                 (given_here ds D b.faithful r h (Some (k + 1))));
           })
       | inr old ↦
@@ -162,7 +146,7 @@ module _ (A : Answer) (is : IsPresentation A.presentation) where
     }
 
   -- a relation that isn't on the list, or was given before
-  pub goes_on-one : (D E : Draft) (r : Relation) → IsRelation A.presentation.rank r → Gives D E r (answer_word A r) None
+  pub goes_on-one : (D E : Draft) (r : Relation) → IsRelation A.presentation.rank r → Gives D E r (side_word A.presentation r) None
       → Completes A (λ q. q ≡ r) D E
   goes_on-one D E r h g ds b = elim g [
     | inl new ↦
@@ -176,7 +160,7 @@ module _ (A : Answer) (is : IsPresentation A.presentation) where
             listed = λ i q l m e. given_still ds D b.faithful r h None q m (b.listed i q l m e);
           };
           kept = given_still ds D b.faithful r h None;
-          given = λ q m e. subst (WasGiven (extended D r (answer_word A r) None)) (sym e) (given_here ds D b.faithful r h None);
+          given = λ q m e. subst (WasGiven (extended D r (side_word A.presentation r) None)) (sym e) (given_here ds D b.faithful r h None);
         })
     | inr old ↦
         subst (GoesOn A (λ q. q ≡ r) ds D) (sym old.1)

@@ -5,8 +5,7 @@ use Rattle.pq_base.specs.Answer.Definition.{image}
 use Rattle.pc_presentation.specs.declared.syllable.Syllable.{Syllable}
 use Rattle.pc_presentation.specs.declared.relation.Relation.{Relation}
 use Rattle.pc_presentation.specs.declared.relation.Relation.TheVariants.{Power, Commutator}
-use Rattle.pc_presentation.specs.Syllable.{syllables_of}
-use Rattle.pc_presentation.specs.Relation.{IsRelation, side_start}
+use Rattle.pc_presentation.specs.Relation.{IsRelation}
 use Rattle.pc_presentation.specs.Pcp.{HasShape, sides_of, right_side, tail_of}
 use Rattle.pc_presentation.specs.Builder.{Draft, WasGiven, extended}
 use Rattle.p_cover.specs.Sources.{relation_source, place_in}
@@ -28,10 +27,6 @@ pub record IsFaithful (A : Answer) (ds : List Source) (D : Draft) : Type 0 where
 pub record IsBegun (A : Answer) (ds : List Source) (k : ℕ) (D : Draft) : Type 0 where
   pub faithful : IsFaithful A ds D
   pub listed : (i : ℕ) (r : Relation) → i < k → IsRelation A.presentation.rank r → get_or ds i (image 0) ≡ relation_source r → WasGiven D r
-
--- the right side of a relation in the answer, as a sparse word
-abbrev pub answer_word : Answer → Relation → List Syllable
-answer_word A r = syllables_of (side_start r) (right_side A.presentation r)
 
 -- the answer's prime and generators
 pub record IsDraftOf (A : Answer) (D : Draft) : Type 0 where

@@ -3,10 +3,11 @@
 ghost use Rattle.std.specs.Prelude.{◌≡◌, ◌≤◌, ◌<◌, ◌+◌, ◌-◌, ◌^◌, All, IfOk, OnOk, map, length};
 ghost use Rattle.pc_presentation.specs.Relation.{IsRelation, IsTail};
 ghost use Rattle.pc_presentation.specs.Definition.{definition_of};
+ghost use Rattle.pc_presentation.specs.Pcp.{side_word};
 ghost use Rattle.p_cover.specs.Sources.{IsPartOf};
 ghost use Rattle.p_cover.specs.Covers.{covering, all_sources};
 ghost use Rattle.p_cover.specs.CoverLaws.{IsSource};
-ghost use Rattle.p_cover.specs.Given.{IsBegun, IsDraftOf, Gives, Completes, answer_word, IsPowerTo, IsCommutatorOf, IsCommutatorTo, IsAny};
+ghost use Rattle.p_cover.specs.Given.{IsBegun, IsDraftOf, Gives, Completes, IsPowerTo, IsCommutatorOf, IsCommutatorTo, IsAny};
 
 use pc_presentation::{Answer, Definition, Pcp, PcpBuilder, PcpRefusal, Relation};
 use pq_base::NoMemory;
@@ -40,19 +41,7 @@ fn empty_builder(
 {
     let pcp = answer.pcp();
     let _rank = pcp.rank();
-    let weights = weights(alloc, pcp)?;
-    PcpBuilder::new(alloc, pcp.prime(), &weights, sources.len() as u16)
-}
-
-/// The weights of all generators.
-fn weights(alloc: Global, pcp: &Pcp) -> Result<Vec<u8>, NoMemory>
-    ensures { IfOk result (λ v. v.items ≡ pcp.now.weights) }
-{
-    let mut weights = Vec::new(alloc);
-    for k in 0..pcp.rank() {
-        weights.push(pcp.weight(k + 1))?;
-    }
-    Ok(weights)
+    PcpBuilder::new(alloc, pcp.prime(), pcp.weights(), sources.len() as u16)
 }
 
 /// Gives the relations on the list, each with its place as its tail.
@@ -154,7 +143,7 @@ fn give(
     requires draft { IsDraftOf answer.now builder.old }
     requires tail { IsTail builder.old.built.tails tail }
     ensures draft { IsDraftOf answer.now builder.new }
-    ensures given { OnOk result (Gives builder.old builder.new r (answer_word answer.now r) tail) }
+    ensures given { OnOk result (Gives builder.old builder.new r (side_word answer.now.presentation r) tail) }
 {
     let Err(refusal) = builder.relation(r, answer.pcp().word(r), tail) else {
         return Ok(());

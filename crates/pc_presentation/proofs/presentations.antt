@@ -11,6 +11,7 @@ pub mod BuilderLaws
 pub mod PartsLaws
 pub mod Conditions
 pub mod TrivialLaws
+pub mod SideLaws
 pub mod RelationSides
 pub mod WrittenWords
 pub mod SyllableParts

@@ -7,7 +7,7 @@ use Rattle.pq_base.specs.Prime.{IsOffered}
 use Rattle.pq_base.specs.Elementary.{elementary}
 use Rattle.pc_presentation.specs.declared.syllable.Syllable.{Syllable}
 use Rattle.pc_presentation.specs.declared.relation.Relation.{Relation}
-use Rattle.pc_presentation.specs.Syllable.{spread}
+use Rattle.pc_presentation.specs.Syllable.{spread, syllables_of}
 use Rattle.pc_presentation.specs.Relation.{IsRelation, IsTail, side_start, PerRelation, entry_at, with_entry, per_relation}
 use Rattle.pc_presentation.specs.Store.{Entry, stored_at}
 
@@ -28,6 +28,10 @@ sides_of P = record { powers = P.powers; commutators = P.commutators }
 -- the right side of a relation: the exponents of the generators from `side_start` on
 abbrev pub right_side : Presentation → Relation → List ℕ
 right_side P r = entry_at [] (sides_of P) r
+
+-- the right side of a relation as a sparse word
+abbrev pub side_word : Presentation → Relation → List Syllable
+side_word P r = syllables_of (side_start r) (right_side P r)
 
 -- the exponents of n tails: 1 at the given one, counted from 1, and 0 elsewhere
 abbrev pub unit_row : ℕ → ℕ → List ℕ

@@ -3,9 +3,9 @@
 ghost use Rattle.std.specs.Prelude.{◌≡◌, ◌≤◌, ◌+◌, ◌-◌, ◌↔◌, ℕ, List, get_or, length, IsTrue, IfOk, OnOk, OnErr};
 ghost use Rattle.pq_base.specs.Limits.{max_rank};
 ghost use Rattle.pq_base.specs.Prime.{prime_value};
-ghost use Rattle.pc_presentation.specs.Syllable.{syllables_of, AreSyllables};
+ghost use Rattle.pc_presentation.specs.Syllable.{AreSyllables};
 ghost use Rattle.pc_presentation.specs.Relation.{IsRelation, IsTail, side_start, tabulate};
-ghost use Rattle.pc_presentation.specs.Pcp.{IsTailedPresentation, IsBareRelation, right_side, tail_of, with_relation, plain_presentation};
+ghost use Rattle.pc_presentation.specs.Pcp.{IsTailedPresentation, IsBareRelation, side_word, tail_of, with_relation, plain_presentation};
 ghost use Rattle.pc_presentation.specs.Commuting.{IsFirstCommuting};
 ghost use Rattle.pc_presentation.specs.CommutingNumbers.{numbers_with, raised_to};
 ghost use Rattle.pc_presentation.specs.Tailed.{rowed_presentation};
@@ -79,7 +79,7 @@ impl Pcp {
     }
 
     /// The weights of all generators.
-    pub(crate) fn weights(&self) -> &[u8]
+    pub fn weights(&self) -> &[u8]
         ensures { result.now ≡ self.now.weights }
     {
         self.weights.as_slice()
@@ -88,7 +88,7 @@ impl Pcp {
     /// The right side of a relation, as the syllables of the exponents that aren't 0.
     pub fn word(&self, r: Relation) -> &[Syllable]
         requires { IsRelation self.now.presentation.rank r }
-        ensures { result.now ≡ syllables_of (side_start r) (right_side self.now.presentation r) }
+        ensures { result.now ≡ side_word self.now.presentation r }
     {
         self.relations.word(r.number(self.weights.len()))
     }

@@ -2,7 +2,7 @@
 -- exponent is raised, and what its frame owes then gives what the push gives.
 use Rattle.std.proofs.Common.{◌≡◌, ℕ, suc, ◌-◌, ◌≤◌, Bool, List, get_or, length, take, drop, ap, sym, ◌∙◌, arith, eq-eqb}
 use Rattle.pc_presentation.specs.declared.relation.Relation.TheVariants.{Power}
-use Rattle.pc_presentation.specs.Pcp.{TailedPresentation, right_side, tail_of, row_of}
+use Rattle.pc_presentation.specs.Pcp.{TailedPresentation, right_side, side_word, tail_of, row_of}
 use Rattle.pc_presentation.specs.Rowed.{RowedPresentation}
 use Rattle.pc_presentation.specs.Collection.{Configuration, State, spelled, add_row, push_word, push_configuration, plain_push}
 use Rattle.pc_presentation.specs.PushSteps.{with_exponent, raised_by, raised, passed}
@@ -15,14 +15,14 @@ use Rattle.pc_presentation.proofs.quotients.TailedLaws.{places_of-syllables_of}
 use Rattle.pc_presentation.proofs.commuting.Shortcuts.{commuting_letters_stay-numbered}
 use Rattle.pc_presentation.proofs.commuting.ExponentsBetween.{between-parts}
 use Rattle.stack_collector.specs.declared.frame.Frame.{Frame}
-use Rattle.stack_collector.specs.Frames.{side_word, pushed, finished}
+use Rattle.stack_collector.specs.Frames.{pushed, finished}
 
 -- where the exponent becomes the prime, the row of the power is added, and its word is to be pushed
 pub raised-past : (T : TailedPresentation) (e m e' : Element) (g : ℕ) → IsElement T e → 1 ≤ g → g ≤ T.presentation.rank
     → suc (get_or e.state.exponents (g - 1) 0) ≡ T.presentation.prime
     → m ≡ with_state e (with_exponent e.state (g - 1) 0)
     → e' ≡ with_state m (add_row T.presentation.prime (row_of T.tails (tail_of T (Power g))) m.state)
-    → pushed T e' (places_of (side_word T (Power g))) ≡ with_state e (raised (rowed_presentation T) e.state (g - 1))
+    → pushed T e' (places_of (side_word T.presentation (Power g))) ≡ with_state e (raised (rowed_presentation T) e.state (g - 1))
 raised-past T e m e' g h one last past p q =
     let Y : RowedPresentation = rowed_presentation T in
     let zeroed : State = with_exponent e.state (g - 1) 0 in
@@ -53,7 +53,8 @@ module _ (T : TailedPresentation) (e : Element) (h : IsElement T e) (g z place s
     (first : IsFirstCommuting (rowed_presentation T) (g - 1) z) where
   pub begun-pushes : (c r : Element) → AreBetween g z e.state.exponents later
       → c ≡ with_state e (record { exponents = cleared_between (g - 1) z e.state.exponents; row = e.state.row })
-      → pushed T r (places_of (drop place (side_word T (Power g)))) ≡ with_state c (raised (rowed_presentation T) c.state (g - 1))
+      → pushed T r (places_of (drop place (side_word T.presentation (Power g))))
+      ≡ with_state c (raised (rowed_presentation T) c.state (g - 1))
       → finished T (begun_frame g z place syllables later) r ≡ with_state e (plain_push (rowed_presentation T) e.state (g - 1))
   begun-pushes c r between p q =
       let Y : RowedPresentation = rowed_presentation T in

@@ -8,25 +8,27 @@ use Rattle.pc_presentation.specs.declared.relation.Relation.{Relation}
 use Rattle.pc_presentation.specs.declared.relation.Relation.TheVariants.{Power, Commutator}
 use Rattle.pc_presentation.specs.Syllable.{syllables_of}
 use Rattle.pc_presentation.specs.Relation.{IsRelation, side_start}
-use Rattle.pc_presentation.specs.Pcp.{TailedPresentation, IsTailedPresentation, right_side}
+use Rattle.pc_presentation.specs.Pcp.{TailedPresentation, IsTailedPresentation, right_side, side_word}
 use Rattle.pc_presentation.specs.Collection.{State, spelled, push_word, plain_push}
 use Rattle.pc_presentation.specs.PushSteps.{passed}
 use Rattle.pc_presentation.specs.Tailed.{Element, rowed_presentation, IsElement, with_state, places_of}
 use Rattle.pc_presentation.proofs.collecting.PushLaws.{push_word-append}
 use Rattle.pc_presentation.proofs.presentations.SyllableLaws.{length-syllables_of}
-use Rattle.pc_presentation.proofs.presentations.RelationSides.{right_side-count, side-generators, side-later}
+use Rattle.pc_presentation.proofs.presentations.RelationSides.{side-generators}
+use Rattle.pc_presentation.proofs.presentations.SideLaws.{right_side-count, side-later}
 use Rattle.stack_collector.specs.declared.frame.Frame.{Frame}
-use Rattle.stack_collector.specs.Frames.{side_word, pushed, letters_owed, letters_to_pass, IsFrame, effort}
+use Rattle.stack_collector.specs.Frames.{pushed, letters_owed, letters_to_pass, IsFrame, effort}
 use Rattle.stack_collector.specs.FrameSteps.{GoesOn, IsWithin, IsPush}
 
 -- an element with letters passed on it by the generator with number g
 abbrev pub passing : TailedPresentation → ℕ → List ℕ → Element → Element
 passing T g v e = with_state e (push_word (passed (rowed_presentation T) (g - 1)) e.state v)
 
-pub length-side_word : (T : TailedPresentation) → IsTailedPresentation T → (r : Relation) → IsRelation T.presentation.rank r → length (side_word T r) ≤ 100
+pub length-side_word : (T : TailedPresentation) → IsTailedPresentation T → (r : Relation) → IsRelation T.presentation.rank r
+    → length (side_word T.presentation r) ≤ 100
 length-side_word T is r h =
     let short = length-syllables_of (side_start r) (right_side T.presentation r) in
-    let count = right_side-count T is r h in
+    let count = right_side-count T.presentation is.presentation r h in
     let limit = is.rank_limit in
     omega arith
 
@@ -104,18 +106,21 @@ module _ (T : TailedPresentation) (is : IsTailedPresentation T) where
       omega arith
 
   module _ (f : Frame) (h : IsFrame T f) where
-    pub syllable-taken : (s d : Syllable) → f.copies ≡ 0 → f.place < length (side_word T f.relation) → s ≡ get_or (side_word T f.relation) f.place d
+    pub syllable-taken : (s d : Syllable) → f.copies ≡ 0 → f.place < length (side_word T.presentation f.relation)
+        → s ≡ get_or (side_word T.presentation f.relation) f.place d
         → GoesOn T f (with_syllable f s)
     syllable-taken s d none more q =
-        let w : List Syllable = side_word T f.relation in
+        let w : List Syllable = side_word T.presentation f.relation in
         let generators = side-generators T is f.relation h.relation w refl f.place d more in
-        let later = side-later T f.relation w refl f.place d more in
+        let later = side-later T.presentation f.relation w refl f.place d more in
         let side = h.side in
         let offered = is.prime in
         let below = exponent-below T.presentation.prime (side_start f.relation) (right_side T.presentation f.relation) f.place d
         (side-below T is f.relation h.relation) more in
-        let same_exponent : s.exponent ≡ (get_or (side_word T f.relation) f.place d).exponent = ap (λ (x : Syllable). x.exponent) q in
-        let same_generator : s.generator ≡ (get_or (side_word T f.relation) f.place d).generator = ap (λ (x : Syllable). x.generator) q in
+        let same_exponent : s.exponent ≡ (get_or (side_word T.presentation f.relation) f.place d).exponent =
+        ap (λ (x : Syllable). x.exponent) q in
+        let same_generator : s.generator ≡ (get_or (side_word T.presentation f.relation) f.place d).generator =
+        ap (λ (x : Syllable). x.generator) q in
         let letters : letters_owed T (with_syllable f s) ≡ letters_owed T f =
         ap (λ (x : Syllable). replicate x.exponent (x.generator - 1) ++ places_of (drop (f.place + 1) w)) q
         ∙ ap places_of (sym (drop_more w f.place d more))
@@ -210,9 +215,11 @@ module _ (T : TailedPresentation) (is : IsTailedPresentation T) where
     -- copies of the letter pushed
     module _ (e e' : Element) (element : IsElement T e') (left : ℕ) (some : 1 ≤ f.copies) (fewer : left ≤ f.copies)
         (made : pushed T e' (replicate left (f.letter - 1)) ≡ pushed T e (replicate f.copies (f.letter - 1))) where
-      rest-behind : pushed T e' (replicate left (f.letter - 1) ++ places_of (drop f.place (side_word T f.relation))) ≡ pushed T e (letters_owed T f)
+      rest-behind : pushed T e' (replicate left (f.letter - 1) ++ places_of (drop f.place (side_word T.presentation f.relation)))
+          ≡ pushed T e (letters_owed T f)
       rest-behind =
-          pushed-behind T e e' (replicate f.copies (f.letter - 1)) (replicate left (f.letter - 1)) (places_of (drop f.place (side_word T f.relation))) made
+          pushed-behind T e e' (replicate f.copies (f.letter - 1)) (replicate left (f.letter - 1))
+          (places_of (drop f.place (side_word T.presentation f.relation))) made
 
       pub letters-pushed : left ≡ 0 → IsWithin T f e (with_copies f 0) e'
       letters-pushed none = record {
@@ -221,7 +228,7 @@ module _ (T : TailedPresentation) (is : IsTailedPresentation T) where
         generator = refl;
         same =
             ap (λ (n : ℕ). passing T f.generator (letters_to_pass f)
-            (pushed T e' (replicate n (f.letter - 1) ++ places_of (drop f.place (side_word T f.relation))))) (sym none)
+            (pushed T e' (replicate n (f.letter - 1) ++ places_of (drop f.place (side_word T.presentation f.relation))))) (sym none)
             ∙ ap (passing T f.generator (letters_to_pass f)) rest-behind;
         less = omega arith;
       }
@@ -238,7 +245,7 @@ module _ (T : TailedPresentation) (is : IsTailedPresentation T) where
             in_range = letter.1;
             same =
                 ap (λ (n : ℕ). passing T f.generator (letters_to_pass f)
-                (pushed T e' (replicate n (f.letter - 1) ++ places_of (drop f.place (side_word T f.relation))))) one_more
+                (pushed T e' (replicate n (f.letter - 1) ++ places_of (drop f.place (side_word T.presentation f.relation))))) one_more
                 ∙ ap (passing T f.generator (letters_to_pass f)) rest-behind;
             less = omega arith;
           }

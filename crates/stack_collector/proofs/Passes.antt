@@ -6,7 +6,7 @@ use Rattle.std.proofs.lemmas.List.{append-nil, append_assoc, replicate-append-re
 use Rattle.pq_base.specs.Presentation.{commutator_side}
 use Rattle.pc_presentation.specs.declared.relation.Relation.TheVariants.{Commutator}
 use Rattle.pc_presentation.specs.Relation.{IsRelation}
-use Rattle.pc_presentation.specs.Pcp.{TailedPresentation, IsTailedPresentation, right_side, tail_of, row_of}
+use Rattle.pc_presentation.specs.Pcp.{TailedPresentation, IsTailedPresentation, right_side, side_word, tail_of, row_of}
 use Rattle.pc_presentation.specs.Rowed.{RowedPresentation, commutator_row}
 use Rattle.pc_presentation.specs.Collection.{Configuration, State, spelled, add_row, push_word, push_configuration, plain_push}
 use Rattle.pc_presentation.specs.PushSteps.{passed}
@@ -17,7 +17,7 @@ use Rattle.pc_presentation.proofs.collecting.PushLaws.{push_word-append, push_wo
 use Rattle.pc_presentation.proofs.collecting.PlainRule.{plain-rides}
 use Rattle.stack_collector.specs.declared.frame.Frame.{Frame}
 use Rattle.pc_presentation.specs.AddedRows.{add_row_times}
-use Rattle.stack_collector.specs.Frames.{side_word, pushed, letters_owed, letters_to_pass, IsFrame}
+use Rattle.stack_collector.specs.Frames.{pushed, letters_owed, letters_to_pass, IsFrame}
 use Rattle.stack_collector.specs.FrameSteps.{IsWithin}
 use Rattle.pc_presentation.proofs.commuting.EmptySides.{no_syllables}
 use Rattle.stack_collector.proofs.FrameLaws.{passing, length-side_word}
@@ -79,14 +79,14 @@ with_passed f n syllables = record f {
 
 module _ (T : TailedPresentation) (f : Frame) (h : IsFrame T f) (e e' : Element) (element : IsElement T e') (n syllables : ℕ)
     (some : 1 ≤ n) (few : n ≤ f.times) (ended : f.copies ≡ 0) (word_ended : f.syllables ≤ f.place)
-    (whole : syllables ≡ length (side_word T (Commutator f.next f.generator))) (one_or_empty : (n ≡ 1) ⊎ (syllables ≡ 0))
+    (whole : syllables ≡ length (side_word T.presentation (Commutator f.next f.generator))) (one_or_empty : (n ≡ 1) ⊎ (syllables ≡ 0))
     (added : e' ≡ with_state e (add_row_times T.presentation.prime (row_of T.tails (tail_of T (Commutator f.next f.generator))) n e.state)) where
   side-one_or_empty : (n ≡ 1) ⊎ ((side_with_tail T (Commutator f.next f.generator)).word ≡ [])
   side-one_or_empty = elim one_or_empty [
     | inl one ↦ inl one
     | inr empty ↦
         inr (sym (places_of-syllables_of f.next (right_side T.presentation (Commutator f.next f.generator)))
-        ∙ ap places_of (no_syllables (side_word T (Commutator f.next f.generator)) (sym whole ∙ empty)))
+        ∙ ap places_of (no_syllables (side_word T.presentation (Commutator f.next f.generator)) (sym whole ∙ empty)))
   ]
 
   letters-split : letters_to_pass f ≡ replicate n (f.next - 1) ++ letters_to_pass (with_passed f n syllables)
@@ -110,8 +110,8 @@ module _ (T : TailedPresentation) (f : Frame) (h : IsFrame T f) (e e' : Element)
       let numbered = commutator_side-numbered T is f.next f.generator from_one order (omega arith) in
       let short = length-side_word T is (Commutator f.next f.generator) (from_one, order, omega arith) in
       let nothing : letters_owed T f ≡ [] =
-      ap (λ (k : ℕ). replicate k (f.letter - 1) ++ places_of (drop f.place (side_word T f.relation))) ended
-      ∙ ap places_of (drop_of_length-le (side_word T f.relation) (omega arith)) in
+      ap (λ (k : ℕ). replicate k (f.letter - 1) ++ places_of (drop f.place (side_word T.presentation f.relation))) ended
+      ∙ ap places_of (drop_of_length-le (side_word T.presentation f.relation) (omega arith)) in
       let begun : passing T f.generator (replicate n (f.next - 1)) e ≡ pushed T e' (letters_owed T (with_passed f n syllables)) =
       ap (with_state e) (passed-together Y (f.next - 1) (f.generator - 1) side (sym numbered) n side-one_or_empty e.state)
       ∙ ap (λ (z : Element). pushed T z (replicate n (f.next - 1) ++ side.word)) (sym added)

@@ -2,11 +2,11 @@
 use Rattle.std.proofs.Common.{◌≡◌, ℕ, ◌+◌, ◌-◌, ◌<◌, ◌≤◌, List, ◌++◌, get_or, length, replicate, drop, refl, ap, sym, ◌∙◌, subst, arith}
 use Rattle.pc_presentation.specs.declared.syllable.Syllable.{Syllable}
 use Rattle.pc_presentation.specs.Relation.{side_start}
-use Rattle.pc_presentation.specs.Pcp.{TailedPresentation, IsTailedPresentation, right_side}
+use Rattle.pc_presentation.specs.Pcp.{TailedPresentation, IsTailedPresentation, right_side, side_word}
 use Rattle.pc_presentation.specs.Tailed.{Element, IsElement, places_of}
 use Rattle.stack_collector.specs.declared.frame.Frame.{Frame}
 use Rattle.stack_collector.specs.declared.steps.Progress.TheVariants.{Push}
-use Rattle.stack_collector.specs.Frames.{side_word, pushed, letters_to_pass}
+use Rattle.stack_collector.specs.Frames.{pushed, letters_to_pass}
 use Rattle.stack_collector.specs.FrameSteps.{GoesOn, IsPush}
 use Rattle.stack_collector.proofs.FrameLaws.{passing, exponent-some, within-alone, with_syllable, with_place, with_copies, syllable-taken, letters-pushed, letter-to_push}
 use Rattle.stack_collector.proofs.StepsInTurn.{LeadsTo, leads-within, leads-step}
@@ -38,19 +38,20 @@ letter-forgotten T f e e2 m s none w =
       generator = refl;
       same =
           ap (λ (n : ℕ). passing T f.generator (letters_to_pass f)
-          (pushed T e2 (replicate n (f.letter - 1) ++ places_of (drop (m + 1) (side_word T f.relation))))) none
+          (pushed T e2 (replicate n (f.letter - 1) ++ places_of (drop (m + 1) (side_word T.presentation f.relation))))) none
           ∙ w.same;
       less = omega arith;
     }
 
 -- the word of the frame, and its letter s at place m
 module _ (T : TailedPresentation) (is : IsTailedPresentation T) (f : Frame) (e e1 : Element) (m : ℕ) (word : List Syllable) (s d : Syllable)
-    (none : f.copies ≡ 0) (w : LeadsTo T f e (with_place f m) e1) (same : word ≡ side_word T f.relation) (inside : m < length word)
+    (none : f.copies ≡ 0) (w : LeadsTo T f e (with_place f m) e1) (same : word ≡ side_word T.presentation f.relation)
+    (inside : m < length word)
     (here : s ≡ get_or word m d) where
-  more : m < length (side_word T f.relation)
+  more : m < length (side_word T.presentation f.relation)
   more = subst (λ (v : List Syllable). m < length v) same inside
 
-  found : s ≡ get_or (side_word T f.relation) m d
+  found : s ≡ get_or (side_word T.presentation f.relation) m d
   found = here ∙ ap (λ (v : List Syllable). get_or v m d) same
 
   taken : GoesOn T (with_place f m) (with_syllable (with_place f m) s)

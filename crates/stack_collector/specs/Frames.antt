@@ -2,19 +2,12 @@
 -- word of a relation; then the letters that were set aside, each to be passed. Rows of words that were begun are added already.
 use Rattle.std.specs.Prelude.{◌≡◌, ◌<◌, ◌≤◌, ◌+◌, ◌-◌, ◌*◌, ℕ, List, ◌++◌, length, replicate, take, drop}
 use Rattle.pq_base.specs.Limits.{max_rank}
-use Rattle.pc_presentation.specs.declared.syllable.Syllable.{Syllable}
-use Rattle.pc_presentation.specs.declared.relation.Relation.{Relation}
-use Rattle.pc_presentation.specs.Syllable.{syllables_of}
 use Rattle.pc_presentation.specs.Relation.{IsRelation, side_start}
-use Rattle.pc_presentation.specs.Pcp.{TailedPresentation, right_side}
+use Rattle.pc_presentation.specs.Pcp.{TailedPresentation, side_word}
 use Rattle.pc_presentation.specs.Collection.{spelled, push_word, plain_push}
 use Rattle.pc_presentation.specs.PushSteps.{passed}
 use Rattle.pc_presentation.specs.Tailed.{Element, rowed_presentation, with_state, places_of}
 use Rattle.stack_collector.specs.declared.frame.Frame.{Frame}
-
--- the right side of a relation as a sparse word
-abbrev pub side_word : TailedPresentation → Relation → List Syllable
-side_word T r = syllables_of (side_start r) (right_side T.presentation r)
 
 -- an element with letters pushed on it by the plain rule
 abbrev pub pushed : TailedPresentation → Element → List ℕ → Element
@@ -22,7 +15,7 @@ pushed T e u = with_state e (push_word (plain_push (rowed_presentation T)) e.sta
 
 -- the letters to push
 abbrev pub letters_owed : TailedPresentation → Frame → List ℕ
-letters_owed T f = replicate f.copies (f.letter - 1) ++ places_of (drop f.place (side_word T f.relation))
+letters_owed T f = replicate f.copies (f.letter - 1) ++ places_of (drop f.place (side_word T.presentation f.relation))
 
 -- the letters to pass
 abbrev pub letters_to_pass : Frame → List ℕ
@@ -44,12 +37,12 @@ pub record IsFrame (T : TailedPresentation) (f : Frame) : Type 0 where
   pub letter : 1 ≤ f.copies → (f.generator < f.letter) × (f.letter ≤ T.presentation.rank)
   pub relation : IsRelation T.presentation.rank f.relation
   pub side : f.generator ≤ side_start f.relation
-  pub place : f.place ≤ length (side_word T f.relation)
-  pub whole : f.syllables ≡ length (side_word T f.relation)
+  pub place : f.place ≤ length (side_word T.presentation f.relation)
+  pub whole : f.syllables ≡ length (side_word T.presentation f.relation)
   pub saved : length f.later ≡ max_rank
   pub few_copies : f.copies ≤ 255
   pub few_times : f.times ≤ 255
 
 -- a number that falls as a frame goes on: how far its letters to pass, its word and its copies have come
 abbrev pub effort : TailedPresentation → Frame → ℕ
-effort T f = 1 + f.copies + 256 * (length (side_word T f.relation) - f.place) + 26000 * (256 * (101 - f.next) + f.times)
+effort T f = 1 + f.copies + 256 * (length (side_word T.presentation f.relation) - f.place) + 26000 * (256 * (101 - f.next) + f.times)

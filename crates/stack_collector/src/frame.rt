@@ -3,7 +3,7 @@
 ghost use Rattle.std.specs.Prelude.{◌≡◌, ◌≤◌, ◌<◌, ℕ, get_or, length};
 ghost use Rattle.pc_presentation.specs.Pcp.{IsTailedPresentation};
 ghost use Rattle.pc_presentation.specs.Collection.{plain_push};
-ghost use Rattle.stack_collector.specs.Frames.{side_word, pushed, finished, IsFrame};
+ghost use Rattle.stack_collector.specs.Frames.{pushed, finished, IsFrame};
 ghost use Rattle.stack_collector.specs.FrameSteps.{GoesOn};
 
 use pc_presentation::{Pcp, Relation};

@@ -2,12 +2,12 @@
 
 ghost use Rattle.std.specs.Prelude.{◌≡◌, ◌≤◌, ◌<◌, ◌+◌, ◌-◌, ◌⊎◌, ℕ, get_or, length, replicate, drop};
 ghost use Rattle.pc_presentation.specs.Relation.{IsRelation};
-ghost use Rattle.pc_presentation.specs.Pcp.{IsTailedPresentation};
+ghost use Rattle.pc_presentation.specs.Pcp.{side_word};
 ghost use Rattle.pc_presentation.specs.Collection.{plain_push};
 ghost use Rattle.pc_presentation.specs.PushSteps.{raised};
 ghost use Rattle.pc_presentation.specs.CommutingLaws.{PassesBarely};
 ghost use Rattle.pc_presentation.specs.Tailed.{rowed_presentation, IsElement, with_state, places_of};
-ghost use Rattle.stack_collector.specs.Frames.{side_word, pushed, finished, IsFrame};
+ghost use Rattle.stack_collector.specs.Frames.{pushed, finished, IsFrame};
 ghost use Rattle.stack_collector.specs.FrameSteps.{IsWithin, IsStep};
 
 use crate::frame::Frame;
@@ -61,9 +61,9 @@ fn raise(pcp: &Pcp, at: &mut Elem, generator: u16) -> usize
     requires from_one { 1 ≤ generator }
     requires in_range { generator ≤ pcp.now.presentation.rank }
     ensures element { IsElement pcp.now at.new }
-    ensures place { result ≤ length (side_word pcp.now (Relation.Power generator)) }
+    ensures place { result ≤ length (side_word pcp.now.presentation (Relation.Power generator)) }
     ensures raised { let Y = rowed_presentation pcp.now in
-        pushed pcp.now at.new (places_of (drop result (side_word pcp.now (Relation.Power generator))))
+        pushed pcp.now at.new (places_of (drop result (side_word pcp.now.presentation (Relation.Power generator))))
         ≡ with_state at.old (raised Y at.old.state (generator - 1)) }
 {
     let power = Relation::Power(generator);
@@ -121,7 +121,7 @@ fn push_syllables(pcp: &Pcp, at: &mut Elem, frame: &mut Frame) -> Progress
     requires element { IsElement pcp.now at.old }
     requires frame { IsFrame pcp.now frame.old }
     requires none_before { frame.old.copies ≡ 0 }
-    requires more { frame.old.place < length (side_word pcp.now frame.old.relation) }
+    requires more { frame.old.place < length (side_word pcp.now.presentation frame.old.relation) }
     ensures { IsStep pcp.now frame.old at.old result frame.new at.new }
 {
     let word = pcp.word(frame.relation);
@@ -221,7 +221,7 @@ fn add_past(pcp: &Pcp, at: &mut Elem, generator: u16, rest: u8)
     requires from_one { 1 ≤ generator }
     requires in_range { generator ≤ pcp.now.presentation.rank }
     requires commutes { PassesBarely (rowed_presentation pcp.now) at.old.state (generator - 1) }
-    requires empty { length (side_word pcp.now (Relation.Power generator)) ≡ 0 }
+    requires empty { length (side_word pcp.now.presentation (Relation.Power generator)) ≡ 0 }
     requires rest { rest < pcp.now.presentation.prime }
     ensures element { IsElement pcp.now at.new }
     ensures added { (n : ℕ) → get_or at.old.state.exponents (generator - 1) 0 + n ≡ pcp.now.presentation.prime + rest

@@ -6,7 +6,7 @@ use Rattle.pc_presentation.specs.declared.syllable.Syllable.{Syllable}
 use Rattle.pc_presentation.specs.declared.relation.Relation.{Relation}
 use Rattle.pc_presentation.specs.Syllable.{syllable, syllables_of}
 use Rattle.pc_presentation.specs.Relation.{side_start}
-use Rattle.pc_presentation.specs.Pcp.{right_side}
+use Rattle.pc_presentation.specs.Pcp.{right_side, side_word}
 use Rattle.answer_text.specs.Words.{AreExponents}
 
 pub AreExponents-syllables_of : (k : ℕ) (e : List ℕ) → AreExponents (syllables_of k e)
@@ -18,5 +18,5 @@ AreExponents-syllables_of k (suc x ∷ es) =
 pub AreExponents-word : (w : List Syllable) (k : ℕ) (e : List ℕ) → w ≡ syllables_of k e → AreExponents w
 AreExponents-word w k e is = subst AreExponents (sym is) (AreExponents-syllables_of k e)
 
-pub AreExponents-right_side : (P : Presentation) (r : Relation) (w : List Syllable) → w ≡ syllables_of (side_start r) (right_side P r) → AreExponents w
+pub AreExponents-right_side : (P : Presentation) (r : Relation) (w : List Syllable) → w ≡ side_word P r → AreExponents w
 AreExponents-right_side P r w is = AreExponents-word w (side_start r) (right_side P r) is

@@ -11,13 +11,13 @@ use Rattle.pc_presentation.specs.declared.relation.Relation.{Relation}
 use Rattle.pc_presentation.specs.declared.relation.Relation.TheVariants.{Power, Commutator}
 use Rattle.pc_presentation.specs.Syllable.{spread}
 use Rattle.pc_presentation.specs.Relation.{IsRelation, PerRelation, side_start, entry_at, per_relation, relation_number}
-use Rattle.pc_presentation.specs.Pcp.{HasShape, sides_of, right_side}
+use Rattle.pc_presentation.specs.Pcp.{HasShape, sides_of, right_side, side_word}
 use Rattle.pc_presentation.specs.Builder.{Draft, empty_draft, extended}
 use Rattle.pc_presentation.proofs.presentations.RelationNumbers.{relation_number-injective}
 use Rattle.pc_presentation.proofs.presentations.RelationTables.{entry_at-per_relation, per_relation-shape}
-use Rattle.pc_presentation.proofs.presentations.SyllableLaws.{spread-syllables_of}
+use Rattle.pc_presentation.proofs.presentations.SideLaws.{spread-side_word}
 use Rattle.pc_presentation.proofs.normal_tables.EntryLaws.{with_entry-shape, entry_at-with_entry_same, entry_at-with_entry_other, same_tables}
-use Rattle.cover_quotient.specs.NextParts.{word_in, IsAmong, IsDraft, Awaits, IsPresentationOf}
+use Rattle.cover_quotient.specs.NextParts.{IsAmong, IsDraft, Awaits, IsPresentationOf}
 
 -- the right sides of an elementary presentation are zeros
 zero_power : (n i m : ℕ) → suc i + m ≡ n → get_or (zero_powers n) i [] ≡ replicate m 0
@@ -53,22 +53,6 @@ module _ (A : Answer) (is : IsPresentation A.presentation) where
   presentation-shape : HasShape A.presentation.rank (sides_of A.presentation)
   presentation-shape = record { power_count = is.power_count; row_count = is.commutator_count; row_lengths = is.commutator_counts }
 
-  side-count : (r : Relation) → IsRelation A.presentation.rank r → side_start r + length (right_side A.presentation r) ≡ A.presentation.rank
-  side-count (Power i) h =
-      let c = (is.power_sides (i - 1) (omega arith)).count in
-      omega arith
-  side-count (Commutator j i) h =
-      let c = (is.commutator_sides (j - 1) (i - 1) (omega arith) (omega arith)).count in
-      omega arith
-
-  -- the word of a right side stands for it
-  spread-word_in : (r : Relation) (m : ℕ) → IsRelation A.presentation.rank r → m ≡ A.presentation.rank
-      → spread (m - side_start r) (side_start r) (word_in A r) ≡ right_side A.presentation r
-  spread-word_in r m h e =
-      let count = side-count r h in
-      let long : m - side_start r ≡ length (right_side A.presentation r) = omega arith in
-      ap (λ (k : ℕ). spread k (side_start r) (word_in A r)) long ∙ spread-syllables_of (side_start r) (right_side A.presentation r)
-
   same_or_other : (q r : Relation) → IsRelation A.presentation.rank q → IsRelation A.presentation.rank r → (q ≡ r) ⊎ (q ≢ r)
   same_or_other q r l h = elim (cases_eq (relation_number A.presentation.rank q) (relation_number A.presentation.rank r)) [
     | inl e ↦ inl (relation_number-injective A.presentation.rank q r l h e)
@@ -80,13 +64,13 @@ module _ (A : Answer) (is : IsPresentation A.presentation) where
     pub draft-more : (a b c a' b' c' : ℕ) (D E : Draft) (r : Relation) → IsRelation A.presentation.rank r
         → ((s : Relation) → IsRelation A.presentation.rank s → IsAmong n a' b' c' s → IsAmong n a b c s ⊎ (s ≡ r))
         → ((s : Relation) → IsAmong n a b c s → IsAmong n a' b' c' s) → IsAmong n a' b' c' r
-        → IsDraft A n a b c D → E ≡ extended D r (word_in A r) None → IsDraft A n a' b' c' E
+        → IsDraft A n a b c D → E ≡ extended D r (side_word A.presentation r) None → IsDraft A n a' b' c' E
     draft-more a b c a' b' c' D E r h either still last d e =
-        let side : List ℕ = spread (D.built.presentation.rank - side_start r) (side_start r) (word_in A r) in
-        let F : Draft = extended D r (word_in A r) None in
+        let side : List ℕ = spread (D.built.presentation.rank - side_start r) (side_start r) (side_word A.presentation r) in
+        let F : Draft = extended D r (side_word A.presentation r) None in
         let here : right_side F.built.presentation r ≡ right_side A.presentation r =
         entry_at-with_entry_same A.presentation.rank (sides_of D.built.presentation) [] d.side_shape r side h
-        ∙ spread-word_in r D.built.presentation.rank h d.rank in
+        ∙ spread-side_word A.presentation is r D.built.presentation.rank h d.rank in
         subst (IsDraft A n a' b' c') (sym e) (record {
           of = is;
           prime = d.prime;
@@ -112,7 +96,7 @@ module _ (A : Answer) (is : IsPresentation A.presentation) where
         })
 
     pub power-more : (k : ℕ) (D E : Draft) → k < A.presentation.rank → IsDraft A n k 0 0 D
-        → E ≡ extended D (Power (k + 1)) (word_in A (Power (k + 1))) None → IsDraft A n (k + 1) 0 0 E
+        → E ≡ extended D (Power (k + 1)) (side_word A.presentation (Power (k + 1))) None → IsDraft A n (k + 1) 0 0 E
     power-more k D E h d e = draft-more k 0 0 (k + 1) 0 0 D E (Power (k + 1)) (omega arith, omega arith) either still (inl (omega arith)) d e
       where
         still : (s : Relation) → IsAmong n k 0 0 s → IsAmong n (k + 1) 0 0 s
@@ -129,7 +113,8 @@ module _ (A : Answer) (is : IsPresentation A.presentation) where
         either (Commutator j i) l m = inl m
 
     pub commutator-more : (k i : ℕ) (D E : Draft) → k < A.presentation.rank → i < k → IsDraft A n n k i D
-        → E ≡ extended D (Commutator (k + 1) (i + 1)) (word_in A (Commutator (k + 1) (i + 1))) None → IsDraft A n n k (i + 1) E
+        → E ≡ extended D (Commutator (k + 1) (i + 1)) (side_word A.presentation (Commutator (k + 1) (i + 1))) None
+        → IsDraft A n n k (i + 1) E
     commutator-more k i D E h m d e =
         draft-more n k i n k (i + 1) D E (Commutator (k + 1) (i + 1)) (omega arith, omega arith, omega arith) either still
         (inr (inl (omega arith, omega arith))) d e

@@ -7,19 +7,18 @@ use Rattle.pc_presentation.specs.declared.relation.Relation.{Relation}
 use Rattle.pc_presentation.specs.declared.relation.Relation.TheVariants.{Power, Commutator}
 use Rattle.pc_presentation.specs.Syllable.{syllables_of}
 use Rattle.pc_presentation.specs.Relation.{IsRelation, side_start}
-use Rattle.pc_presentation.specs.Pcp.{IsTailedPresentation, right_side, tail_of, row_of}
+use Rattle.pc_presentation.specs.Pcp.{IsTailedPresentation, right_side, side_word, tail_of, row_of}
 use Rattle.pc_presentation.specs.Rowed.{RowedPresentation, IsRowed}
 use Rattle.pc_presentation.specs.Tailed.{rowed_presentation}
 use Rattle.pq_base.proofs.PrimeLaws.{offered-two}
 use Rattle.pc_presentation.proofs.rows.FlatLaws.{power_side-flat, power_side-tail, commutator_side-flat, commutator_side-tail, flat-presentation}
-use Rattle.pc_presentation.proofs.presentations.RelationSides.{right_side-count}
+use Rattle.pc_presentation.proofs.presentations.SideLaws.{right_side-count}
 use Rattle.pc_presentation.proofs.rows.TailRowLaws.{entry_at-tail_rows}
 use Rattle.pc_presentation.proofs.quotients.TailedLaws.{rowed_presentation-is}
 use Rattle.p_cover.specs.Covers.{CoverOf, cover_presentation}
 use Rattle.cover_quotient.specs.Carried.{carried, carried_presentation}
 use Rattle.cover_quotient.specs.Combinations.{TailCombinations}
 use Rattle.cover_quotient.specs.NextAnswer.{combined_answer}
-use Rattle.cover_quotient.specs.NextParts.{word_in}
 use Rattle.cover_quotient.proofs.carried_rows.CarriedPresentations.{power_row-carried, commutator_row-carried, carried-rowed}
 use Rattle.pc_presentation.proofs.presentations.SyllableParts.{syllables_of-append}
 
@@ -93,8 +92,10 @@ module _ (C : CoverOf) (K : TailCombinations) (is : IsTailedPresentation (cover_
 
   -- as sparse words
   pub next_word-is : (r : Relation) → IsRelation C.answer.presentation.rank r
-      → word_in (combined_answer C K) r ≡ word_in C.answer r ++ syllables_of C.answer.presentation.rank (new_row r)
+      → side_word (combined_answer C K).presentation r
+      ≡ side_word C.answer.presentation r ++ syllables_of C.answer.presentation.rank (new_row r)
   next_word-is r h =
       ap (syllables_of (side_start r)) (right_side-old r h)
       ∙ syllables_of-append (side_start r) (right_side C.answer.presentation r) (new_row r)
-      ∙ ap (λ (m : ℕ). word_in C.answer r ++ syllables_of m (new_row r)) (right_side-count (cover_presentation C) is r h)
+      ∙ ap (λ (m : ℕ). side_word C.answer.presentation r ++ syllables_of m (new_row r))
+      (right_side-count C.answer.presentation is.presentation r h)

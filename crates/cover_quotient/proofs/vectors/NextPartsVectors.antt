@@ -7,9 +7,9 @@ use Rattle.pc_presentation.specs.declared.relation.Relation.{Relation}
 use Rattle.pc_presentation.specs.declared.relation.Relation.TheVariants.{Power, Commutator}
 use Rattle.pc_presentation.specs.Syllable.{syllable}
 use Rattle.pc_presentation.specs.Relation.{IsRelation, side_start}
-use Rattle.pc_presentation.specs.Pcp.{right_side}
+use Rattle.pc_presentation.specs.Pcp.{right_side, side_word}
 use Rattle.pc_presentation.specs.Builder.{Draft, WasGiven, empty_draft, extended}
-use Rattle.cover_quotient.specs.NextParts.{IsPlace, word_in, IsAmong, IsDraft, Awaits}
+use Rattle.cover_quotient.specs.NextParts.{IsPlace, IsAmong, IsDraft, Awaits}
 use Rattle.cover_quotient.proofs.next_answers.NextDrafts.{draft-empty}
 
 commutator_given : IsAmong 3 3 1 1 (Commutator 2 1)
@@ -23,10 +23,10 @@ commutator_not_given (inr (inr h)) = omega (arith, h)
 new_power_empty : IsAmong 3 0 0 0 (Power 4)
 new_power_empty = inr (omega arith)
 
-commutator_word : word_in answer_of_order_eight (Commutator 2 1) ≡ syllable 3 1 ∷ []
+commutator_word : side_word answer_of_order_eight.presentation (Commutator 2 1) ≡ syllable 3 1 ∷ []
 commutator_word = refl
 
-power_word : word_in answer_of_order_eight (Power 3) ≡ []
+power_word : side_word answer_of_order_eight.presentation (Power 3) ≡ []
 power_word = refl
 
 last_place : IsPlace (commutator 2 1 ∷ power 1 ∷ []) 2

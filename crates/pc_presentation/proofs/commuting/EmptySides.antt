@@ -7,14 +7,13 @@ use Rattle.pc_presentation.specs.declared.relation.Relation.{Relation}
 use Rattle.pc_presentation.specs.declared.relation.Relation.TheVariants.{Commutator}
 use Rattle.pc_presentation.specs.Syllable.{spread, syllables_of}
 use Rattle.pc_presentation.specs.Relation.{IsRelation, side_start}
-use Rattle.pc_presentation.specs.Pcp.{TailedPresentation, IsTailedPresentation, IsBareRelation, right_side, tail_of}
+use Rattle.pc_presentation.specs.Pcp.{TailedPresentation, IsTailedPresentation, IsBareRelation, right_side, side_word, tail_of}
 use Rattle.pc_presentation.specs.Commuting.{IsBare}
 use Rattle.pc_presentation.specs.CommutingLaws.{PassesBarely}
 use Rattle.pc_presentation.specs.Tailed.{Element, rowed_presentation}
-use Rattle.pc_presentation.proofs.presentations.SyllableLaws.{spread-syllables_of}
 use Rattle.pc_presentation.proofs.presentations.SyllableParts.{syllables_of-zeros}
 use Rattle.pc_presentation.proofs.presentations.PlainLaws.{spread-nil}
-use Rattle.pc_presentation.proofs.presentations.RelationSides.{right_side-count}
+use Rattle.pc_presentation.proofs.presentations.SideLaws.{spread-side_word}
 use Rattle.pc_presentation.proofs.presentations.BareRelations.{IsBare-relation, IsBareRelation-bare}
 
 pub no_syllables : (w : List Syllable) → length w ≡ 0 → w ≡ []
@@ -33,18 +32,15 @@ is_none-None (Some x) b e h = cc
 
 module _ (T : TailedPresentation) (is : IsTailedPresentation T) where
   pub side-empty : (r : Relation) (w : List Syllable) → IsRelation T.presentation.rank r
-      → w ≡ syllables_of (side_start r) (right_side T.presentation r) → length w ≡ 0
+      → w ≡ side_word T.presentation r → length w ≡ 0
       → right_side T.presentation r ≡ replicate (T.presentation.rank - side_start r) 0
   side-empty r w h q none =
-      let count = right_side-count T is r h in
-      let long : length (right_side T.presentation r) ≡ T.presentation.rank - side_start r = omega arith in
-      sym (spread-syllables_of (side_start r) (right_side T.presentation r))
-      ∙ ap (spread (length (right_side T.presentation r)) (side_start r)) (sym q ∙ no_syllables w none)
-      ∙ spread-nil (length (right_side T.presentation r)) (side_start r)
-      ∙ ap (λ (n : ℕ). replicate n 0) long
+      sym (spread-side_word T.presentation is.presentation r T.presentation.rank h refl)
+      ∙ ap (spread (T.presentation.rank - side_start r) (side_start r)) (sym q ∙ no_syllables w none)
+      ∙ spread-nil (T.presentation.rank - side_start r) (side_start r)
 
   pub bare-empty : (r : Relation) (w : List Syllable) (t : Option ℕ) (b : Bool) → IsRelation T.presentation.rank r
-      → w ≡ syllables_of (side_start r) (right_side T.presentation r) → length w ≡ 0 → t ≡ tail_of T r → is_some t ≡ not b → IsTrue b → IsBareRelation T r
+      → w ≡ side_word T.presentation r → length w ≡ 0 → t ≡ tail_of T r → is_some t ≡ not b → IsTrue b → IsBareRelation T r
   bare-empty r w t b h q none u is_none true_b = record { side = side-empty r w h q none; tail = sym u ∙ no_tail t b is_none true_b }
 
   -- the generators with numbers j + 1 > g
@@ -79,7 +75,7 @@ module _ (T : TailedPresentation) (is : IsTailedPresentation T) where
       (IsBareRelation-bare T is j (g - 1) within (omega arith) (passes j (omega arith) within some)))
 
 -- and back
-pub empty-bare : (T : TailedPresentation) (r : Relation) (w : List Syllable) → w ≡ syllables_of (side_start r) (right_side T.presentation r)
+pub empty-bare : (T : TailedPresentation) (r : Relation) (w : List Syllable) → w ≡ side_word T.presentation r
     → IsBareRelation T r → w ≡ []
 empty-bare T r w q b = q ∙ ap (syllables_of (side_start r)) b.side ∙ syllables_of-zeros (side_start r) (T.presentation.rank - side_start r)
 

@@ -21,8 +21,9 @@ letters-spelled k (x ∷ e) =
     ∙ ap (λ (w : List ℤ). copies (letter k) x ++ w) (letters-spelled (suc k) e)
 
 -- a right side that is followed by a row
-pub side_word : (n i : ℕ) (e x : List ℕ) → suc i + length e ≡ n → word_from (suc i) (e ++ x) ≡ letters (spelled (suc i) e) ++ word_from n x
-side_word n i e x c =
+pub word_from-side_and_row : (n i : ℕ) (e x : List ℕ) → suc i + length e ≡ n
+    → word_from (suc i) (e ++ x) ≡ letters (spelled (suc i) e) ++ word_from n x
+word_from-side_and_row n i e x c =
     word_from-append (suc i) e x
     ∙ ap (λ (m : ℕ). word_from (suc i) e ++ word_from m x) c
     ∙ ap (λ (w : List ℤ). w ++ word_from n x) (sym (letters-spelled (suc i) e))

@@ -21,7 +21,7 @@ use Rattle.pc_presentation.proofs.collecting.PlainRuns.{AllBelow-replicate, AllB
 use Rattle.pc_presentation.proofs.collecting.RunLaws.ReplacementFrom.{swap_from, power_from}
 use Rattle.pc_presentation.proofs.collecting.StateProducts.{star, RelationsAct, star-identity_left}
 use Rattle.pc_presentation.proofs.consistent.StateGroup.{ValidState}
-use Rattle.pc_presentation.proofs.consistent.LetterWords.{letters-replicate, letters-spelled, side_word}
+use Rattle.pc_presentation.proofs.consistent.LetterWords.{letters-replicate, letters-spelled, word_from-side_and_row}
 use Rattle.pc_presentation.proofs.rows.FlatLaws.{power_side-flat, power_side-tail, commutator_side-flat, commutator_side-tail}
 use Rattle.pc_presentation.proofs.rows.SingleRows.{single-zero, single-normal}
 use Rattle.pc_presentation.proofs.consistent.GroupRelators.{relator-one, commutator-value}
@@ -73,7 +73,7 @@ module _ (Y : RowedPresentation) (rowed : IsRowed Y) (big : 1 < Y.base.prime) (a
       ∙ Values.value-letters Y rowed big acts (replicate p i) (AllBelow-replicate Y.base.rank p i l)
       ∙ acts (identity Y Y.base.rank) (identity-state Y Y.base.rank (Values.is_positive Y rowed big acts)) (replicate Y.base.prime i) (spelled (suc i) side) row (power_from i i (omega arith) l)
       ∙ sym (Values.value-with_row Y rowed big acts (spelled (suc i) side) row (AllBelow-spelled Y.base.rank (suc i) side (omega arith)) (rowed.power_rows i l))
-      ∙ ap state_value (sym (ap (word_from (suc i)) (power_side-flat Y rowed i l) ∙ side_word Y.base.rank i side row c))
+      ∙ ap state_value (sym (ap (word_from (suc i)) (power_side-flat Y rowed i l) ∙ word_from-side_and_row Y.base.rank i side row c))
 
   swap-value : (j i : ℕ) → j < Y.base.rank → i < j
       → state_value (letter j ++ letter i) ≡ state_value (letter i ++ (letter j ++ commutator_word (flat Y) j i))
@@ -85,7 +85,7 @@ module _ (Y : RowedPresentation) (rowed : IsRowed Y) (big : 1 < Y.base.prime) (a
       ∙ acts (identity Y Y.base.rank) (identity-state Y Y.base.rank (Values.is_positive Y rowed big acts)) (j ∷ i ∷ []) (i ∷ j ∷ spelled (suc j) side) row
       (swap_from j i j i (omega arith) (omega arith) l m)
       ∙ sym (Values.value-with_row Y rowed big acts (i ∷ j ∷ spelled (suc j) side) row (omega arith, (l, AllBelow-spelled Y.base.rank (suc j) side (omega arith))) (rowed.commutator_rows j i l m))
-      ∙ ap (λ (w : List ℤ). state_value (letter i ++ (letter j ++ w))) (sym (ap (word_from (suc j)) (commutator_side-flat Y rowed j i l) ∙ side_word Y.base.rank j side row c))
+      ∙ ap (λ (w : List ℤ). state_value (letter i ++ (letter j ++ w))) (sym (ap (word_from (suc j)) (commutator_side-flat Y rowed j i l) ∙ word_from-side_and_row Y.base.rank j side row c))
 
   tail_power-value : (t : ℕ) → t < Y.width → state_value (copies (letter (Y.base.rank + t)) Y.base.prime) ≡ state_value (power_word (flat Y) (Y.base.rank + t))
   tail_power-value t l =

@@ -11,7 +11,7 @@ use Rattle.pc_presentation.specs.declared.relation.Relation.TheVariants.{Power, 
 use Rattle.pc_presentation.specs.Syllable.{spread, syllables_of}
 use Rattle.pc_presentation.specs.Relation.{IsRelation, IsTail, side_start, per_relation}
 use Rattle.pc_presentation.specs.Store.{Entry, stored_at, AreEntries}
-use Rattle.pc_presentation.specs.Pcp.{TailedPresentation, IsTailedPresentation, HasShape, tailed_presentation, right_side, tail_of}
+use Rattle.pc_presentation.specs.Pcp.{TailedPresentation, IsTailedPresentation, HasShape, tailed_presentation, right_side, side_word, tail_of}
 use Rattle.pc_presentation.proofs.presentations.SyllableLaws.{length-spread, AllBelow-spread, syllables_of-spread}
 use Rattle.pc_presentation.proofs.presentations.RelationTables.{entry_at-per_relation, per_relation-shape}
 
@@ -36,7 +36,7 @@ module _ (p tails : ℕ) (weights : List ℕ) (entries : List Entry) where
   tail_of-tailed r h = entry_at-per_relation (length weights) (λ q. (stored_at (length weights) entries q).tail) None r h
 
   pub syllables_of-right_side : AreEntries p (length weights) tails entries → (r : Relation) → IsRelation (length weights) r
-      → syllables_of (side_start r) (right_side (tailed_presentation p weights tails entries).presentation r)
+      → side_word (tailed_presentation p weights tails entries).presentation r
       ≡ (stored_at (length weights) entries r).word
   syllables_of-right_side a r h =
       let n : ℕ = length weights in

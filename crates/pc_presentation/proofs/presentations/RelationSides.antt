@@ -1,31 +1,24 @@
 -- The right sides of relations by the numbers of their generators: they are spelled in generators after those of the left
 -- side, and with their tails they are the sides and rows at the places of these generators.
-use Rattle.std.proofs.Common.{◌≡◌, ℕ, suc, ◌+◌, ◌-◌, ◌<◌, ◌≤◌, Option, List, length, ap, sym, ◌∙◌, subst, arith}
+use Rattle.std.proofs.Common.{◌≡◌, ℕ, suc, ◌-◌, ◌<◌, ◌≤◌, Option, List, ap, sym, ◌∙◌, subst, arith}
 use Rattle.pq_base.specs.Presentation.{power_side, commutator_side}
 use Rattle.pc_presentation.specs.declared.syllable.Syllable.{Syllable}
 use Rattle.pc_presentation.specs.declared.relation.Relation.{Relation}
 use Rattle.pc_presentation.specs.declared.relation.Relation.TheVariants.{Power, Commutator}
-use Rattle.pc_presentation.specs.Syllable.{syllables_of, AreGenerators, AreLater}
+use Rattle.pc_presentation.specs.Syllable.{AreGenerators}
 use Rattle.pc_presentation.specs.Relation.{IsRelation, side_start}
-use Rattle.pc_presentation.specs.Pcp.{TailedPresentation, IsTailedPresentation, right_side, row_of, tail_of}
+use Rattle.pc_presentation.specs.Pcp.{TailedPresentation, IsTailedPresentation, right_side, side_word, row_of, tail_of}
 use Rattle.pc_presentation.specs.Rowed.{power_row, commutator_row}
 use Rattle.pc_presentation.specs.Collection.{Configuration, spelled}
 use Rattle.pc_presentation.specs.Tailed.{rowed_presentation, sparse_configuration, side_with_tail}
-use Rattle.pc_presentation.proofs.quotients.TailedLaws.{power_side-with_tail, commutator_side-with_tail, places_of-syllables_of, generators-syllables_of, later-syllables_of}
+use Rattle.pc_presentation.proofs.quotients.TailedLaws.{power_side-with_tail, commutator_side-with_tail, places_of-syllables_of, generators-syllables_of}
+use Rattle.pc_presentation.proofs.presentations.SideLaws.{right_side-count}
 
 module _ (T : TailedPresentation) (is : IsTailedPresentation T) where
-  pub right_side-count : (r : Relation) → IsRelation T.presentation.rank r → side_start r + length (right_side T.presentation r) ≡ T.presentation.rank
-  right_side-count (Power i) h =
-      let c = (is.presentation.power_sides (i - 1) (omega arith)).count in
-      omega arith
-  right_side-count (Commutator j i) h =
-      let c = (is.presentation.commutator_sides (j - 1) (i - 1) (omega arith) (omega arith)).count in
-      omega arith
-
   pub side-generators : (r : Relation) → IsRelation T.presentation.rank r → (w : List Syllable)
-      → w ≡ syllables_of (side_start r) (right_side T.presentation r) → AreGenerators T.presentation.rank w
+      → w ≡ side_word T.presentation r → AreGenerators T.presentation.rank w
   side-generators r h w q =
-      let count = right_side-count r h in
+      let count = right_side-count T.presentation is.presentation r h in
       subst (AreGenerators T.presentation.rank) (sym q)
       (generators-syllables_of T.presentation.rank (side_start r) (right_side T.presentation r) (omega arith))
 
@@ -46,13 +39,8 @@ module _ (T : TailedPresentation) (is : IsTailedPresentation T) where
       ap (λ (k : ℕ). side_with_tail T (Commutator k i)) a ∙ ap (λ (k : ℕ). side_with_tail T (Commutator (suc (j - 1)) k)) b
       ∙ commutator_side-with_tail T is (j - 1) (i - 1) (omega arith) (omega arith)
 
-pub side-later : (T : TailedPresentation) (r : Relation) (w : List Syllable) → w ≡ syllables_of (side_start r) (right_side T.presentation r)
-    → AreLater (side_start r) w
-side-later T r w q =
-    subst (AreLater (side_start r)) (sym q) (later-syllables_of (side_start r) (side_start r) (right_side T.presentation r) (omega arith))
-
 -- what is read of a relation
-pub side-read : (T : TailedPresentation) (r : Relation) (w : List Syllable) (t : Option ℕ) → w ≡ syllables_of (side_start r) (right_side T.presentation r)
+pub side-read : (T : TailedPresentation) (r : Relation) (w : List Syllable) (t : Option ℕ) → w ≡ side_word T.presentation r
     → t ≡ tail_of T r → sparse_configuration T.tails w t ≡ side_with_tail T r
 side-read T r w t q u =
     ap (λ (v : List Syllable). sparse_configuration T.tails v t) q

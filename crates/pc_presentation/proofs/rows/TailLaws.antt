@@ -18,7 +18,7 @@ use Rattle.pc_presentation.specs.Collection.Replacement.{swap, power}
 use Rattle.pc_presentation.specs.CollectionLaws.{DirectedRunsAreJoined, PlainPushesAreJoined}
 use Rattle.pc_presentation.proofs.rows.RowLaws.{row_sum-comm, row_sum-normal}
 use Rattle.pc_presentation.proofs.collecting.PlainRuns.{plain_push-run, AllBelow-append, AllBelow-spelled}
-use Rattle.pc_presentation.proofs.consistent.LetterWords.{letters-append, letters-replicate, side_word}
+use Rattle.pc_presentation.proofs.consistent.LetterWords.{letters-append, letters-replicate, word_from-side_and_row}
 use Rattle.pc_presentation.proofs.rows.FlatLaws.{power_side-flat, power_side-tail, commutator_side-flat, commutator_side-tail}
 
 -- words that commute
@@ -135,12 +135,12 @@ module _ (Y : RowedPresentation) (rowed : IsRowed Y) where
   replacement-sides (swap j i h m) =
       let side : List ℕ = commutator_side Y.base j i in
       let word_is : commutator_word (flat Y) j i ≡ letters (spelled (suc j) (commutator_side Y.base j i)) ++ word_from Y.base.rank (commutator_row Y j i) =
-      ap (word_from (suc j)) (commutator_side-flat Y rowed j i h) ∙ side_word Y.base.rank j side (commutator_row Y j i) (rowed.base.commutator_sides j i h m).count in
+      ap (word_from (suc j)) (commutator_side-flat Y rowed j i h) ∙ word_from-side_and_row Y.base.rank j side (commutator_row Y j i) (rowed.base.commutator_sides j i h m).count in
       subst (λ (w : List ℤ). Joined (flat Y) (letter j ++ letter i) (letter i ++ (letter j ++ w))) word_is (letter-swap-joined (flat Y) j i (omega arith) m)
   replacement-sides (power i h) =
       let side : List ℕ = power_side Y.base i in
       let word_is : power_word (flat Y) i ≡ letters (spelled (suc i) (power_side Y.base i)) ++ word_from Y.base.rank (power_row Y i) =
-      ap (word_from (suc i)) (power_side-flat Y rowed i h) ∙ side_word Y.base.rank i side (power_row Y i) (rowed.base.power_sides i h).count in
+      ap (word_from (suc i)) (power_side-flat Y rowed i h) ∙ word_from-side_and_row Y.base.rank i side (power_row Y i) (rowed.base.power_sides i h).count in
       subst (λ (w : List ℤ). Joined (flat Y) w (letters (spelled (suc i) (power_side Y.base i)) ++ word_from Y.base.rank (power_row Y i))) (sym (letters-replicate Y.base.prime i))
       (subst (λ (w : List ℤ). Joined (flat Y) (copies (letter i) Y.base.prime) w) word_is (power-joined (flat Y) i (omega arith)))
 

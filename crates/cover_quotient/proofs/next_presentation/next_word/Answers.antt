@@ -1,9 +1,6 @@
-use Rattle.std.proofs.Common.{◌≡◌, ◌++◌, ℕ, Option, List, IfOk, length, ap, ap₂, sym, ◌∙◌, subst}
+use Rattle.std.proofs.Common.{◌≡◌, ◌++◌, ℕ, Option, List, IfOk, ap, ap₂, sym, ◌∙◌, subst}
 use Rattle.pc_presentation.specs.declared.syllable.Syllable.{Syllable}
-use Rattle.pc_presentation.specs.Syllable.{syllables_of}
-use Rattle.pc_presentation.specs.Relation.{side_start}
-use Rattle.pc_presentation.specs.Pcp.{TailedPresentation, IsTailedPresentation, right_side, tail_of}
-use Rattle.cover_quotient.specs.NextParts.{word_in}
+use Rattle.pc_presentation.specs.Pcp.{TailedPresentation, IsTailedPresentation, side_word, tail_of}
 use Rattle.cover_quotient.proofs.next_answers.CombinedTails.{tail_part, cover_part, cover_rows}
 use Rattle.cover_quotient.proofs.next_answers.NextSides.{next_word-is}
 use Rattle.cover_quotient.proofs.next_presentation.next_word.Goals as goal
@@ -14,8 +11,8 @@ returns c =
     let K = c.args.combinations.now in
     let r = c.args.r in
     let pcp = c.pcp-pcp.ensures.presentation in
-    let start : c.word.result.now ≡ word_in C.answer r =
-    c.word.ensures ∙ ap (λ (T : TailedPresentation). syllables_of (side_start r) (right_side T.presentation r)) pcp in
+    let start : c.word.result.now ≡ side_word C.answer.presentation r =
+    c.word.ensures ∙ ap (λ (T : TailedPresentation). side_word T.presentation r) pcp in
     let rank : c.rank.result ≡ C.answer.presentation.rank = c.rank.ensures.rank ∙ ap (λ (T : TailedPresentation). T.presentation.rank) pcp in
     let is = subst IsTailedPresentation pcp c.rank.ensures.presentation in
     let rows = cover_rows C K c.requires.combinations c.kept-combinations.ensures.combinations in

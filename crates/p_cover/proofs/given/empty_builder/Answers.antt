@@ -14,7 +14,7 @@ pub new-requires : goal.new-requires
 new-requires c =
     let limit = c.rank-rank.ensures.presentation.rank_limit in
     let count = c.rank-rank.ensures.presentation.weight_count in
-    let long = ap (length {A = ℕ}) (c.deref.ensures.value ∙ c.in_ok-weights.ensures) in
+    let long = ap (length {A = ℕ}) c.weights.ensures in
     omega arith
 
 pub returns : goal.returns
@@ -24,9 +24,9 @@ returns c =
     let p : ℕ = prime_value c.prime.result in
     IfOk-weaker c.new.result _ (IsBegun A ds 0)
     (λ b e. subst (IsBegun A ds 0) (sym e)
-    (begun-empty A ds c.pcp-pcp.ensures.answer.presentation p (length c.args.sources.now) c.deref.result.now
+    (begun-empty A ds c.pcp-pcp.ensures.answer.presentation p (length c.args.sources.now) c.weights.result.now
     (offered-two p (prime_value-offered c.prime.result))
     (c.prime.ensures ∙ ap (λ (P : Presentation). P.prime) c.pcp-pcp.ensures.presentation)
-    (c.deref.ensures.value ∙ c.in_ok-weights.ensures ∙ c.pcp-pcp.ensures.weights)
+    (c.weights.ensures ∙ c.pcp-pcp.ensures.weights)
     (sym (length-map c.args.sources.now definition_of)) c.pcp-pcp.ensures.answer.weight_count))
     c.new.ensures

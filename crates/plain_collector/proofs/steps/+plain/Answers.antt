@@ -13,7 +13,8 @@ use Rattle.pc_presentation.proofs.quotients.ElementConditions.{exponent-below_pr
 use Rattle.pc_presentation.proofs.quotients.PushesLeft.{after, copies-left, spelled-left, syllables-left, no_syllables-left}
 use Rattle.pc_presentation.proofs.commuting.EmptySides.{side-empty}
 use Rattle.pc_presentation.proofs.commuting.Shortcuts.{cleared_between-element, copies-added, copies-wrapped}
-use Rattle.pc_presentation.proofs.presentations.RelationSides.{side-generators, side-later}
+use Rattle.pc_presentation.proofs.presentations.RelationSides.{side-generators}
+use Rattle.pc_presentation.proofs.presentations.SideLaws.{side-later}
 use Rattle.plain_collector.proofs.EmptyPasses.{passed-together}
 use Rattle.plain_collector.proofs.CopiesBehind.{copies-behind}
 use Rattle.plain_collector.proofs.Progress.{side-pushed, pass-step, push-made}
@@ -141,7 +142,7 @@ push_side-push_times-requires t c =
     let inside : c.loop-s.s-index < length c.word-s-items.result.now = omega arith in
     let letter = side-generators T c.requires.element.presentation c.args.relation c.requires.relation c.word-s-items.result.now c.word-s-items.ensures
     c.loop-s.s-index d inside in
-    let later = side-later T c.args.relation c.word-s-items.result.now c.word-s-items.ensures c.loop-s.s-index d inside in
+    let later = side-later T.presentation c.args.relation c.word-s-items.result.now c.word-s-items.ensures c.loop-s.s-index d inside in
     let from_one = letter.0 in
     let in_range = letter.1 in
     (omega arith, (c.loop-s.invariant.0, (letter.0, letter.1)))

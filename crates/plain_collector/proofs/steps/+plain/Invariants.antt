@@ -1,8 +1,7 @@
 -- A push of a generator goes on with later ones alone. What is left to push decides.
 use Rattle.std.proofs.Common.{◌≡◌, ◌-◌, ◌+◌, ◌*◌, replicate, drop, take}
-use Rattle.pc_presentation.specs.Syllable.{syllables_of}
 use Rattle.pc_presentation.specs.Relation.{side_start}
-use Rattle.pc_presentation.specs.Pcp.{right_side}
+use Rattle.pc_presentation.specs.Pcp.{side_word}
 use Rattle.pc_presentation.specs.Collection.{spelled, plain_push}
 use Rattle.pc_presentation.specs.PushSteps.{passed}
 use Rattle.pc_presentation.specs.Commuting.{AreBetween}
@@ -57,7 +56,7 @@ invariant-push-loop-j l =
 abbrev pub invariant-push_side-loop-s : goal.invariant-push_side-loop-s
 invariant-push_side-loop-s l =
     IsElement l.pcp l.at
-    × (l.s-items ≡ syllables_of (side_start l.relation) (right_side l.pcp.presentation l.relation))
+    × (l.s-items ≡ side_word l.pcp.presentation l.relation)
     × (after (plain_push (rowed_presentation l.pcp)) l.at (places_of (drop l.s-index l.s-items))
     ≡ after (plain_push (rowed_presentation l.pcp)) l.fn.at (places_of l.s-items))
 

@@ -1,11 +1,10 @@
 use Rattle.std.proofs.Common.{◌-◌, ℕ, Option, ap, refl, sym, ◌∙◌, subst}
 use Rattle.pc_presentation.specs.declared.relation.Relation.TheVariants.{Power}
 use Rattle.pc_presentation.specs.Relation.{IsTail}
-use Rattle.pc_presentation.specs.Pcp.{row_of}
+use Rattle.pc_presentation.specs.Pcp.{row_of, side_word}
 use Rattle.pc_presentation.specs.Collection.{add_row}
 use Rattle.pc_presentation.specs.Tailed.{Element, IsElement, with_state}
 use Rattle.pc_presentation.proofs.quotients.ElementConditions.{set-element}
-use Rattle.stack_collector.specs.Frames.{side_word}
 use Rattle.pc_presentation.proofs.commuting.EmptySides.{side-empty}
 use Rattle.pc_presentation.proofs.commuting.Shortcuts.{copies-wrapped}
 use Rattle.stack_collector.proofs.steps.add_past.Goals as goal
@@ -23,7 +22,7 @@ add_tail-requires-clause-tail c =
 pub returns-clause-added : goal.returns-clause-added
 returns-clause-added c = λ n total.
     let T = c.args.pcp.now in
-    let zeros = side-empty T c.requires.element.presentation (Power c.args.generator) (side_word T (Power c.args.generator))
+    let zeros = side-empty T c.requires.element.presentation (Power c.args.generator) (side_word T.presentation (Power c.args.generator))
     (c.requires.from_one, c.requires.in_range) refl c.requires.empty in
     copies-wrapped T c.args.at.now c.requires.element c.args.generator n c.requires.from_one c.requires.in_range c.args.rest total c.requires.rest
     c.set_exponent.new.self c.add_tail.new.at c.requires.commutes zeros c.set_exponent.ensures

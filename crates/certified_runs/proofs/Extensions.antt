@@ -1,6 +1,6 @@
 -- Each answer that a run builds extends those before it: right sides and lists of the earlier answer stand in front of those of the
 -- later one. This is so whether or not what is built is an answer.
-use Rattle.std.proofs.Common.{◌≡◌, ℕ, zero, suc, ◌+◌, ◌-◌, ◌<◌, ◌≤◌, List, [], ◌∷◌, ◌++◌, length, get_or, map, replicate, refl, ap, ap₂}
+use Rattle.std.proofs.Common.{◌≡◌, ℕ, zero, suc, ◌+◌, ◌-◌, ◌<◌, ◌≤◌, List, [], ◌++◌, length, get_or, map, replicate, refl, ap, ap₂}
 use Rattle.std.proofs.Common.{sym, ◌∙◌, arith, Option, ⊎_elim, length-append, append_assoc}
 use Rattle.std.proofs.lemmas.Bool.{cases_lt}
 use Rattle.std.proofs.lemmas.List.{append-nil, length-map, length-replicate, get_or_append_left, get_or-append-add}
@@ -13,7 +13,8 @@ use Rattle.pc_presentation.specs.Rowed.{RowedPresentation, power_row, commutator
 use Rattle.pc_presentation.specs.Rowed.{tail_commutators, flat}
 use Rattle.pc_presentation.specs.Pcp.{HasShape, row_of}
 use Rattle.pc_presentation.proofs.presentations.RelationTables.{per_relation-shape}
-use Rattle.pc_presentation.proofs.rows.FlatLaws.{length-followed_by, get_or-followed_by}
+use Rattle.pc_presentation.proofs.rows.FlatLaws.{length-followed_by, get_or-followed_by, length-tables_followed_by}
+use Rattle.pc_presentation.proofs.rows.FlatLaws.{get_or-tables_followed_by, length-tail_powers, length-tail_commutators}
 use Rattle.p_cover.specs.RowedAnswer.{rowed}
 use Rattle.p_cover.specs.Covers.{CoverOf, cover_presentation}
 use Rattle.p_cover.specs.Sources.{relation_source, place_in}
@@ -73,27 +74,7 @@ extends-trans n m N M O few a b = record {
   rank = let x = a.rank in let y = b.rank in omega arith;
 }
 
-length-tables : (xs ys : List (List (List ℕ))) → length xs ≡ length ys → length (tables_followed_by xs ys) ≡ length xs
-length-tables [] ys e = refl
-length-tables (x ∷ xs) [] e = absurd (omega arith)
-length-tables (x ∷ xs) (y ∷ ys) e = ap suc (length-tables xs ys (omega arith))
-
-get_or-tables : (xs ys : List (List (List ℕ))) (i : ℕ) → length xs ≡ length ys
-    → get_or (tables_followed_by xs ys) i [] ≡ followed_by (get_or xs i []) (get_or ys i [])
-get_or-tables [] [] i e = refl
-get_or-tables [] (y ∷ ys) i e = absurd (omega arith)
-get_or-tables (x ∷ xs) [] i e = absurd (omega arith)
-get_or-tables (x ∷ xs) (y ∷ ys) zero e = refl
-get_or-tables (x ∷ xs) (y ∷ ys) (suc i) e = get_or-tables xs ys i (omega arith)
-
-length-powers : (q : ℕ) → length (tail_powers q) ≡ q
-length-powers zero = refl
-length-powers (suc q) = ap suc (length-powers q)
-
-length-commutators : (n q : ℕ) → length (tail_commutators n q) ≡ q
-length-commutators n zero = refl
-length-commutators n (suc q) = ap suc (length-commutators (suc n) q)
-
+-- the list of commutators of tail t is as long as there are generators and tails before it
 length-tail_row : (n q t : ℕ) → t < q → length (get_or (tail_commutators n q) t []) ≡ n + t
 length-tail_row n zero t l = absurd (omega arith)
 length-tail_row n (suc q) zero l = let e : n ≡ n + 0 = omega arith in length-replicate n (replicate q 0) ∙ e
@@ -154,10 +135,10 @@ module _ (C : CoverOf) (bs : List BasisRow) (shaped : IsShaped C.answer) where
   flat_commutators : (j : ℕ) → j < C.answer.presentation.rank
       → get_or (flat Z).commutators j [] ≡ followed_by (get_or C.answer.presentation.commutators j []) (get_or Z.commutator_rows j [])
   flat_commutators j l =
-      let c = length-tables C.answer.presentation.commutators Z.commutator_rows same_commutators in
+      let c = length-tables_followed_by C.answer.presentation.commutators Z.commutator_rows same_commutators in
       let d = shaped.commutators in
       get_or_append_left (tables_followed_by C.answer.presentation.commutators Z.commutator_rows) (tail_commutators n w) [] j (omega arith)
-      ∙ get_or-tables C.answer.presentation.commutators Z.commutator_rows j same_commutators
+      ∙ get_or-tables_followed_by C.answer.presentation.commutators Z.commutator_rows j same_commutators
 
   same_row : (j : ℕ) → j < C.answer.presentation.rank
       → length (get_or C.answer.presentation.commutators j []) ≡ length (get_or Z.commutator_rows j [])
@@ -174,7 +155,7 @@ module _ (C : CoverOf) (bs : List BasisRow) (shaped : IsShaped C.answer) where
       let t : ℕ = j - C.answer.presentation.rank in
       let xs : List (List (List ℕ)) = tables_followed_by C.answer.presentation.commutators Z.commutator_rows in
       let long : length (tables_followed_by C.answer.presentation.commutators Z.commutator_rows) ≡ C.answer.presentation.rank =
-      length-tables C.answer.presentation.commutators Z.commutator_rows same_commutators ∙ shaped.commutators in
+      length-tables_followed_by C.answer.presentation.commutators Z.commutator_rows same_commutators ∙ shaped.commutators in
       let place : j ≡ length (tables_followed_by C.answer.presentation.commutators Z.commutator_rows) + t = omega arith in
       let end : n + t ≡ j = omega arith in
       ap (λ (k : ℕ). length (get_or (flat Z).commutators k [])) place
@@ -188,14 +169,14 @@ module _ (C : CoverOf) (bs : List BasisRow) (shaped : IsShaped C.answer) where
     powers =
         let c = length-followed_by C.answer.presentation.powers Z.power_rows same_powers in
         let d = shaped.powers in
-        let e = length-powers w in
+        let e = length-tail_powers w in
         length-append (followed_by C.answer.presentation.powers Z.power_rows) (tail_powers w)
         ∙ ap₂ (λ (a b : ℕ). a + b) (c ∙ d) e;
     commutators =
         length-append (tables_followed_by C.answer.presentation.commutators Z.commutator_rows) (tail_commutators n w)
         ∙ ap₂ (λ (a b : ℕ). a + b)
-        (length-tables C.answer.presentation.commutators Z.commutator_rows same_commutators ∙ shaped.commutators)
-        (length-commutators n w);
+        (length-tables_followed_by C.answer.presentation.commutators Z.commutator_rows same_commutators ∙ shaped.commutators)
+        (length-tail_commutators n w);
     rows = rows-next;
   }
 

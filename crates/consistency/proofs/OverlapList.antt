@@ -5,32 +5,10 @@ use Rattle.pq_base.specs.Canonical.{numbers_from}
 use Rattle.pc_presentation.specs.declared.overlap.Overlap.{Overlap}
 use Rattle.pc_presentation.specs.declared.overlap.Overlap.TheVariants.{Triple, Left, Right, Own}
 use Rattle.pc_presentation.specs.OverlapNumbers.{AreOverlapNumbers}
+use Rattle.pc_presentation.proofs.consistent.OverlapKinds.{kind_of, latest_of, middle_of, earliest_of}
 use Rattle.consistency.specs.AllOverlaps.{with_smaller, pairs, triples_with, triples, owns, all_overlaps}
 use Rattle.consistency.specs.ConsistencyLaws.{EachOverlapOnce}
 use Rattle.pq_base.proofs.ListMembers.{In, Apart, In-append_left, In-append_right, In-append_cases, In-map, In-map_cases, In-flat_map, In-flat_map_cases, In-numbers, numbers-range, Contains-from_In, In-from_Contains, Apart-append, Apart-map, Apart-flat_map, Apart-numbers, Apart-places}
-
--- what tells overlaps apart: the kind, and the numbers
-abbrev kind_of : Overlap → ℕ
-kind_of (Triple k j i) = 0
-kind_of (Left j i) = 1
-kind_of (Right j i) = 2
-kind_of (Own i) = 3
-
-abbrev latest_of : Overlap → ℕ
-latest_of (Triple k j i) = k
-latest_of _ = 0
-
-abbrev middle_of : Overlap → ℕ
-middle_of (Triple k j i) = j
-middle_of (Left j i) = j
-middle_of (Right j i) = j
-middle_of (Own i) = 0
-
-abbrev earliest_of : Overlap → ℕ
-earliest_of (Triple k j i) = i
-earliest_of (Left j i) = i
-earliest_of (Right j i) = i
-earliest_of (Own i) = i
 
 -- an overlap of two numbers up to n
 record IsPair (f : ℕ → ℕ → Overlap) (n : ℕ) (o : Overlap) : Type 0 where

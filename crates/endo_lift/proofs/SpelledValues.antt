@@ -1,18 +1,19 @@
 -- What the generators of an answer spell, carried along an endomorphism: the values of left sides, of right sides letter by letter,
 -- and of the words that tails stand for.
-use Rattle.std.proofs.Common.{◌≡◌, ℕ, zero, suc, ◌+◌, ◌-◌, ◌<◌, ◌≤◌, ℤ, pos, List, [], ◌∷◌, ◌++◌, get_or, length, map, take, refl, ap, sym, ◌∙◌, subst, arith, append_assoc, length-append, inl, inr}
-use Rattle.std.proofs.lemmas.List.{append-nil, take_more, get_or_append_left, get_or_push, get_or_default}
+use Rattle.std.proofs.Common.{◌≡◌, ℕ, zero, suc, ◌+◌, ◌-◌, ◌<◌, ◌≤◌, ℤ, pos, List, [], ◌∷◌, ◌++◌, get_or, length, map, take, ap, sym, ◌∙◌, subst, arith, length-append, inl, inr}
+use Rattle.std.proofs.lemmas.List.{get_or_append_left, get_or_push, get_or_default}
 use Rattle.std.proofs.lemmas.Bool.{cases_lt}
 use Rattle.pq_base.specs.SignedWord.{inv, copies, comm, sub, HasLetters}
 use Rattle.pq_base.specs.LPresentation.{AreWords}
 use Rattle.pq_base.specs.Answer.{Answer, Definition as Source, IsAnswer, definition_at, spell, spelled, word_at}
 use Rattle.pq_base.specs.Answer.Definition.{image, commutator, power}
 use Rattle.pq_base.specs.EntryWords.{spelling_words, entry_word}
-use Rattle.pq_base.proofs.words.WordLaws.{sub-append, sub-inv, sub-copies, sub-comm, sub-letter}
+use Rattle.pq_base.proofs.words.WordLaws.{sub-append, sub-inv, sub-copies, sub-comm}
 use Rattle.pq_base.proofs.words.LetterLaws.{HasLetters-get_or}
 use Rattle.pq_base.proofs.words.SpelledLists.{RefersBefore, spelled-at, definition-refers}
 use Rattle.pc_presentation.specs.declared.syllable.Syllable.{Syllable}
 use Rattle.pc_presentation.specs.Syllable.{letters_of, AreGenerators}
+use Rattle.pc_presentation.proofs.presentations.SyllableLaws.{letters_of-more, sub-number}
 use Rattle.pc_presentation.specs.Pcp.{TailedPresentation}
 use Rattle.pc_presentation.specs.Collection.{State}
 use Rattle.pc_presentation.specs.Arithmetic.{word_of}
@@ -44,25 +45,6 @@ spell-defined A is k l =
     ap (λ (n : ℕ). get_or (spelling_words A) n []) (sym none)
     ∙ spelled-at A.presentation.prime [] A.definitions k (omega arith)
     (subst (λ (n : ℕ). RefersBefore n (definition_at A k)) (sym none) (definition-refers A k (definition_at A k) (is.definitions k l)))
-
--- letters of sparse words
-letters_of-append : (u v : List Syllable) → letters_of (u ++ v) ≡ letters_of u ++ letters_of v
-letters_of-append [] v = refl
-letters_of-append (s ∷ u) v =
-    ap (λ (w : List ℤ). copies (pos s.generator ∷ []) s.exponent ++ w) (letters_of-append u v)
-    ∙ sym (append_assoc (copies (pos s.generator ∷ []) s.exponent) (letters_of u) (letters_of v))
-
-letters_of-more : (word : List Syllable) (i : ℕ) (s : Syllable) → i < length word → s ≡ get_or word i s
-    → letters_of (take (i + 1) word) ≡ letters_of (take i word) ++ copies (pos s.generator ∷ []) s.exponent
-letters_of-more word i s l at =
-    ap letters_of (take_more word i s l)
-    ∙ ap (λ (x : Syllable). letters_of (take i word ++ x ∷ [])) (sym at)
-    ∙ letters_of-append (take i word) (s ∷ [])
-    ∙ ap (λ (w : List ℤ). letters_of (take i word) ++ w) (append-nil (copies (pos s.generator ∷ []) s.exponent))
-
-sub-number : (j : ℕ) (words : List (List ℤ)) → 1 ≤ j → sub (pos j ∷ []) words ≡ word_at words j
-sub-number zero words l = refl
-sub-number (suc j) words l = sub-letter j words
 
 module _ (C : CoverOf) (endo : List (List ℤ)) (es : List Element) (spelled_values : AreSpelled C endo es) where
   abbrev S : List (List ℤ)
@@ -110,8 +92,7 @@ module _ (C : CoverOf) (endo : List (List ℤ)) (es : List Element) (spelled_val
         let here : IsUpTo m (length es) (image i) = subst (IsUpTo m (length es)) q up in
         let word : w ≡ get_or endo (i - 1) [] = p ∙ get_or_default endo (i - 1) w [] (omega (arith, here.0, here.1)) in
         same_value C w (sub (spelled C.answer.presentation.prime S d) endo) out
-        (word ∙ sym (ap (λ (x : Source). sub (spelled C.answer.presentation.prime S x) endo) q ∙ sub-number i endo here.0
-        ∙ word_at-place endo i here.0))
+        (word ∙ sym (ap (λ (x : Source). sub (spelled C.answer.presentation.prime S x) endo) q ∙ sub-number i endo here.0))
         (value-evaluated C T t is push f lifted w u fs out r elements element joined)
 
   -- one value more
@@ -142,7 +123,7 @@ module _ (C : CoverOf) (endo : List (List ℤ)) (es : List Element) (spelled_val
       let u : List ℤ = letters_of (take i word) in
       let v : List ℤ = word_at (spelling_words C.answer) s.generator in
       let more : letters_of (take (i + 1) word) ≡ letters_of (take i word) ++ copies (pos s.generator ∷ []) s.exponent =
-      letters_of-more word i s l at in
+      letters_of-more word i s l ∙ ap (λ (x : Syllable). letters_of (take i word) ++ copies (pos x.generator ∷ []) x.exponent) (sym at) in
       let carried : sub (sub (letters_of (take (i + 1) word)) S) endo ≡ sub (sub u S) endo ++ copies (sub v endo) s.exponent =
       ap (λ (w : List ℤ). sub (sub w S) endo) more
       ∙ ap (λ (w : List ℤ). sub w endo) (sub-append u (copies (pos s.generator ∷ []) s.exponent) S)
@@ -150,7 +131,7 @@ module _ (C : CoverOf) (endo : List (List ℤ)) (es : List Element) (spelled_val
       ∙ ap (λ (w : List ℤ). sub (sub u S) endo ++ w)
       (ap (λ (w : List ℤ). sub w endo) (sub-copies (pos s.generator ∷ []) s.exponent S)
       ∙ sub-copies (sub (pos s.generator ∷ []) S) s.exponent endo
-      ∙ ap (λ (w : List ℤ). copies (sub w endo) s.exponent) (sub-number s.generator S one)) in
+      ∙ ap (λ (w : List ℤ). copies (sub w endo) s.exponent) (sub-number s.generator S one ∙ sym (word_at-place S s.generator one))) in
       same_value C (sub (sub u S) endo ++ copies (sub v endo) s.exponent) (sub (sub (letters_of (take (i + 1) word)) S) endo) out
       (sym carried)
       (step (sub (sub u S) endo) (sub v endo) h (value-at s.generator g d one last q))

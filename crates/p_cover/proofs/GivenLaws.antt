@@ -1,7 +1,7 @@
 -- What one relation more does to the presentation of a cover in the making: it stays faithful, and nothing that was given is
 -- lost.
 use Rattle.std.proofs.Common.{◌≡◌, ◌≢◌, ◌⊎◌, ◌<◌, ◌+◌, ◌-◌, ℕ, true, false, Option, Some, None, List, [], get_or, length, refl, ap, sym, ◌∙◌, subst, inl, inr, arith}
-use Rattle.std.proofs.lemmas.Bool.{cases_eq, cases_lt, false_from_ne_true}
+use Rattle.std.proofs.lemmas.Bool.{cases_lt, false_from_ne_true}
 use Rattle.std.proofs.lemmas.List.Elements.{All-from_get_or}
 use Rattle.pq_base.specs.Presentation.{IsPresentation}
 use Rattle.pq_base.specs.Answer.{Answer, Definition as Source}
@@ -11,10 +11,10 @@ use Rattle.pq_base.proofs.vectors.CanonicalTests.{same-definition_refl}
 use Rattle.pc_presentation.specs.declared.relation.Relation.{Relation}
 use Rattle.pc_presentation.specs.declared.relation.Relation.TheVariants.{Power as PowerOf, Commutator as CommutatorOf}
 use Rattle.pc_presentation.specs.Syllable.{spread}
-use Rattle.pc_presentation.specs.Relation.{IsRelation, side_start, relation_number}
+use Rattle.pc_presentation.specs.Relation.{IsRelation, side_start}
 use Rattle.pc_presentation.specs.Pcp.{right_side, side_word, sides_of, tail_of}
 use Rattle.pc_presentation.specs.Builder.{Draft, WasGiven, extended}
-use Rattle.pc_presentation.proofs.presentations.RelationNumbers.{relation_number-injective}
+use Rattle.pc_presentation.proofs.presentations.RelationNumbers.{same_or_other}
 use Rattle.pc_presentation.proofs.presentations.SideLaws.{spread-side_word}
 use Rattle.pc_presentation.proofs.normal_tables.EntryLaws.{with_entry-shape, entry_at-with_entry_same, entry_at-with_entry_other}
 use Rattle.p_cover.specs.Sources.{relation_source, place_in}
@@ -42,12 +42,6 @@ relation_source-injective (CommutatorOf j i) (CommutatorOf l k) e =
 pub relation_no_image : (q : Relation) (k : ℕ) → relation_source q ≢ image k
 relation_no_image (PowerOf i) k e = power_no_image i k e
 relation_no_image (CommutatorOf j i) k e = commutator_no_image j i k e
-
-same_or_other : (n : ℕ) (q r : Relation) → IsRelation n q → IsRelation n r → (q ≡ r) ⊎ (q ≢ r)
-same_or_other n q r l h = elim (cases_eq (relation_number n q) (relation_number n r)) [
-  | inl e ↦ inl (relation_number-injective n q r l h e)
-  | inr ne ↦ inr (λ (e : q ≡ r). ne (ap (relation_number n) e))
-]
 
 module _ (A : Answer) (is : IsPresentation A.presentation) where
   module _ (ds : List Source) (D : Draft) (f : IsFaithful A ds D) (r : Relation) (h : IsRelation A.presentation.rank r) (tail : Option ℕ) where

@@ -9,5 +9,6 @@ pub mod Consistency
 pub mod ConsistentPushes
 pub mod ConsistentOverlaps
 pub mod OverlapWays
+pub mod OverlapKinds
 pub mod OverlapNumberLaws
 pub mod OverlapRows

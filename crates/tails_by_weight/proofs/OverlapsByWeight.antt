@@ -4,33 +4,11 @@ use Rattle.pq_base.specs.Answer.{Answer, IsAnswer, class_of}
 use Rattle.pq_base.specs.Canonical.{numbers_from, weight_of, rank_up_to}
 use Rattle.pc_presentation.specs.declared.overlap.Overlap.{Overlap}
 use Rattle.pc_presentation.specs.declared.overlap.Overlap.TheVariants.{Triple, Left, Right, Own}
+use Rattle.pc_presentation.proofs.consistent.OverlapKinds.{kind_of, latest_of, middle_of, earliest_of}
 use Rattle.tails_by_weight.specs.LightOverlaps.{IsLightOverlap, with_room, light_triples_of, light_triples_with, light_triples, light_pairs_with, light_pairs, light_owns, light_overlaps}
 use Rattle.tails_by_weight.specs.WeightLaws.{EachLightOverlapOnce}
 use Rattle.pq_base.proofs.ListMembers.{In, Apart, In-append_left, In-append_right, In-append_cases, In-map, In-map_cases, In-flat_map, In-flat_map_cases, In-numbers, numbers-range, Contains-from_In, In-from_Contains, Apart-append, Apart-map, Apart-flat_map, Apart-numbers, Apart-places}
 use Rattle.tails_by_weight.proofs.RoomLaws.{with_room-has, with_room-only, rank_up_to-weight, weight-rank_up_to, rank_up_to-within}
-
--- what tells overlaps apart: the kind, and the numbers
-abbrev kind_of : Overlap → ℕ
-kind_of (Triple k j i) = 0
-kind_of (Left j i) = 1
-kind_of (Right j i) = 2
-kind_of (Own i) = 3
-
-abbrev latest_of : Overlap → ℕ
-latest_of (Triple k j i) = k
-latest_of _ = 0
-
-abbrev middle_of : Overlap → ℕ
-middle_of (Triple k j i) = j
-middle_of (Left j i) = j
-middle_of (Right j i) = j
-middle_of (Own i) = 0
-
-abbrev earliest_of : Overlap → ℕ
-earliest_of (Triple k j i) = i
-earliest_of (Left j i) = i
-earliest_of (Right j i) = i
-earliest_of (Own i) = i
 
 -- lists over the numbers with room
 with_room-apart : (A : Answer) (w j : ℕ) → Apart (with_room A w j)

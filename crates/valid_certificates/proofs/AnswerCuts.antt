@@ -1,8 +1,8 @@
 -- An answer that is cut to a class is consistent and kills the relators of a presentation where the whole answer does.
-use Rattle.std.proofs.Common.{◌≡◌, ◌-◌, ℕ, ℤ, List, [], ◌∷◌, map, take, refl, ap, ap₂, sym, ◌∙◌, arith}
+use Rattle.std.proofs.Common.{◌≡◌, ◌-◌, ℕ, ap, sym, ◌∙◌}
 use Rattle.pq_base.specs.SignedWord.{sub}
 use Rattle.pq_base.specs.LPresentation.{LPresentation}
-use Rattle.pq_base.specs.Presentation.{Presentation, normal_word}
+use Rattle.pq_base.specs.Presentation.{Presentation}
 use Rattle.pq_base.specs.Joined.{IsConsistent}
 use Rattle.pq_base.specs.Answer.{Answer, IsAnswer, image_words}
 use Rattle.pq_base.specs.Canonical.{first_generators, rank_up_to, up_to_class}
@@ -11,15 +11,9 @@ use Rattle.pq_base.proofs.words.WordLaws.{sub-sub}
 use Rattle.pq_base.proofs.words.JoinedLaws.{joined-from_equal, joined-trans}
 use Rattle.pc_presentation.specs.RowedLaws.{projection}
 use Rattle.pc_presentation.specs.CutLaws.{cut_word}
-use Rattle.pc_presentation.proofs.cuts.CutSides.{sub-word_from, joined-cut}
+use Rattle.pc_presentation.proofs.cuts.CutSides.{images-cut, joined-cut}
 use Rattle.pc_presentation.proofs.cuts.Cuts.{cuts_are_consistent}
 use Rattle.cover_quotient.proofs.canonical_answers.ClassesByWeight.{rank-within}
-
-images-cut : (m q : ℕ) (es : List (List ℕ))
-    → map (λ (u : List ℤ). sub u (projection m q)) (map normal_word es) ≡ map normal_word (map (take m) es)
-images-cut m q [] = refl
-images-cut m q (e ∷ es) =
-    ap₂ (λ (w : List ℤ) (ws : List (List ℤ)). w ∷ ws) (sub-word_from m q 0 m e (omega arith)) (images-cut m q es)
 
 module _ (A : Answer) (is : IsAnswer A) (k : ℕ) where
   pub cut-consistent : IsConsistent A.presentation → IsConsistent (up_to_class A k).presentation

@@ -1,16 +1,17 @@
 -- The words of elements that are the values of definitions, one after the other, and of those that are values of normal words.
 use Rattle.std.proofs.Common.{◌≡◌, ◌≤◌, ◌<◌, ◌+◌, ◌-◌, ℕ, zero, suc, ℤ, pos, List, [], ◌∷◌, ◌++◌, get_or, length, map, set, take, refl, ap}
-use Rattle.std.proofs.Common.{ap₂, sym, ◌∙◌, subst, arith, append_assoc, eq-or-lt_of_le, inl, inr}
-use Rattle.std.proofs.lemmas.List.{get_or-set_same, get_or-set_other, map-set, take_more, append-nil}
+use Rattle.std.proofs.Common.{ap₂, sym, ◌∙◌, subst, arith, eq-or-lt_of_le, inl, inr}
+use Rattle.std.proofs.lemmas.List.{get_or-set_same, get_or-set_other, map-set}
 use Rattle.pq_base.specs.SignedWord.{copies, comm, sub}
 use Rattle.pq_base.specs.Joined.{Joined}
 use Rattle.pq_base.specs.Answer.{Answer, Definition, IsAnswer, definition_at, word_at}
 use Rattle.pq_base.specs.Answer.Definition.{image, commutator, power}
-use Rattle.pq_base.proofs.words.WordLaws.{sub-append, sub-copies, sub-letter}
+use Rattle.pq_base.proofs.words.WordLaws.{sub-append, sub-copies}
 use Rattle.pq_base.proofs.words.SpelledLists.{RefersBefore, definition-refers}
 use Rattle.pq_base.proofs.words.JoinedLaws.{joined-trans, joined-from_equal, joined-append_right}
 use Rattle.pc_presentation.specs.declared.syllable.Syllable.{Syllable}
 use Rattle.pc_presentation.specs.Syllable.{letters_of}
+use Rattle.pc_presentation.proofs.presentations.SyllableLaws.{letters_of-more, sub-number}
 use Rattle.pc_presentation.specs.Rowed.{RowedPresentation, flat}
 use Rattle.pc_presentation.specs.Arithmetic.{word_of}
 use Rattle.pc_presentation.specs.Pcp.{TailedPresentation}
@@ -84,32 +85,18 @@ module _ (T : TailedPresentation) (B : Answer) (is : IsAnswer B) where
       (sym whole)
       (elim (eq-or-lt_of_le (let a : i ≤ k = omega (arith, m) in a)) [ inl e ↦ here e | inr b ↦ there b ])
 
--- letters, one syllable more
-letters_of-append : (u v : List Syllable) → letters_of (u ++ v) ≡ letters_of u ++ letters_of v
-letters_of-append [] v = refl
-letters_of-append (s ∷ u) v =
-    ap (λ (w : List ℤ). copies (pos s.generator ∷ []) s.exponent ++ w) (letters_of-append u v)
-    ∙ sym (append_assoc (copies (pos s.generator ∷ []) s.exponent) (letters_of u) (letters_of v))
-
-letter-value : (g : ℕ) (G : List (List ℤ)) → 1 ≤ g → sub (pos g ∷ []) G ≡ get_or G (g - 1) []
-letter-value g G l =
-    let e : g ≡ suc (g - 1) = omega arith in
-    ap (λ (n : ℕ). sub (pos n ∷ []) G) e ∙ sub-letter (g - 1) G
-
+-- the value of one syllable more
 pub letters-more : (w : List Syllable) (i : ℕ) (d : Syllable) (G : List (List ℤ)) → i < length w → 1 ≤ (get_or w i d).generator
     → sub (letters_of (take (i + 1) w)) G
     ≡ sub (letters_of (take i w)) G ++ copies (get_or G ((get_or w i d).generator - 1) []) (get_or w i d).exponent
 letters-more w i d G l from_one =
-    let s = get_or w i d in
-    ap (λ (x : List Syllable). sub (letters_of x) G) (take_more w i d l)
-    ∙ ap (λ (x : List ℤ). sub x G) (letters_of-append (take i w) (get_or w i d ∷ [])
-    ∙ ap (λ (x : List ℤ). letters_of (take i w) ++ x) (append-nil (copies (pos (get_or w i d).generator ∷ []) (get_or w i d).exponent)))
+    ap (λ (x : List ℤ). sub x G) (letters_of-more w i d l)
     ∙ sub-append (letters_of (take i w)) (copies (pos (get_or w i d).generator ∷ []) (get_or w i d).exponent) G
     ∙ ap (λ (x : List ℤ). sub (letters_of (take i w)) G ++ x)
     (sub-copies (pos (get_or w i d).generator ∷ []) (get_or w i d).exponent G
-    ∙ ap (λ (x : List ℤ). copies x (get_or w i d).exponent) (letter-value (get_or w i d).generator G from_one))
+    ∙ ap (λ (x : List ℤ). copies x (get_or w i d).exponent) (sub-number (get_or w i d).generator G from_one))
 
--- the value of one syllable more
+-- so the elements that stand for them
 pub value-more : (T : TailedPresentation) (w : List Syllable) (i : ℕ) (d : Syllable) (G : List (List ℤ)) (old out : Element)
     → i < length w
     → 1 ≤ (get_or w i d).generator → StandsFor T (sub (letters_of (take i w)) G) old

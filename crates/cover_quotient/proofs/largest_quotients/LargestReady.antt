@@ -1,7 +1,7 @@
 -- An answer that is the largest quotient of the class that it shows, and cut at the class before it the largest of that class,
 -- is ready for the next class. A generator of the last weight dies in the cut answer, so in the table of normal words it lies in the
 -- level before the last. Its commutators and its power then lie in the last level, which is trivial, and so do the right sides.
-use Rattle.std.proofs.Common.{◌≡◌, ℕ, suc, ◌+◌, ◌-◌, ◌<◌, ◌≤◌, ℤ, List, [], ◌∷◌, ◌++◌, get_or, length, map, take, replicate, refl, ap, ap₂, sym, ◌∙◌, subst, arith, length-append, inl, inr}
+use Rattle.std.proofs.Common.{◌≡◌, ℕ, suc, ◌+◌, ◌-◌, ◌<◌, ◌≤◌, ℤ, List, [], ◌∷◌, ◌++◌, get_or, length, replicate, refl, ap, sym, ◌∙◌, subst, arith, length-append, inl, inr}
 use Rattle.std.proofs.lemmas.Bool.{cases_lt}
 use Rattle.std.proofs.lemmas.List.{length-replicate}
 use Rattle.pq_base.specs.SignedWord.{copies, comm, sub, HasLetters}
@@ -28,7 +28,7 @@ use Rattle.pc_presentation.specs.RowedLaws.{projection}
 use Rattle.pc_presentation.specs.CutLaws.{cut_word}
 use Rattle.pc_presentation.proofs.collecting.PlainRuns.{AllBelow-append, AllBelow-replicate}
 use Rattle.pc_presentation.proofs.rows.Projections.{get_or-projection_past}
-use Rattle.pc_presentation.proofs.cuts.CutSides.{sub-word_from, joined-cut}
+use Rattle.pc_presentation.proofs.cuts.CutSides.{images-cut, joined-cut}
 use Rattle.pc_presentation.proofs.normal_tables.LevelWords.{tables_have_the_class}
 use Rattle.cover_quotient.specs.Levels.{IsReady}
 use Rattle.cover_quotient.specs.Stages.{image_numbers}
@@ -72,12 +72,6 @@ module _ (P : Presentation) (some : 0 < P.prime) (consistent : IsConsistent P) (
       (behind-normal (replicate (length e) 0) (length-replicate (length e) 0) (AllBelow-replicate P.prime (length e) 0 some))
       (joined-trans (joined-from_equal P (behind-word e)) (joined-trans trivial (joined-from_equal P (sym no_side)))) in
       sym (behind-word e) ∙ ap normal_word same ∙ no_side
-
--- the images of an answer that is cut, as words without letters
-images-cut : (m q : ℕ) (es : List (List ℕ)) → map (λ (u : List ℤ). sub u (projection m q)) (map normal_word es) ≡ map normal_word (map (take m) es)
-images-cut m q [] = refl
-images-cut m q (e ∷ es) =
-    ap₂ (λ (w : List ℤ) (ws : List (List ℤ)). w ∷ ws) (sub-word_from m q 0 m e (omega arith)) (images-cut m q es)
 
 module _ (L : LPresentation) (p : ℕ) (A : Answer) (is : IsAnswer A) (some : 1 ≤ class_of A) (here : IsLargest L p (class_of A) A)
     (before : IsLargest L p (class_of A - 1) (up_to_class A (class_of A - 1))) where

@@ -10,10 +10,10 @@ use Rattle.pq_base.proofs.ElementarySides.{elementary-presentation}
 use Rattle.pc_presentation.specs.declared.relation.Relation.{Relation}
 use Rattle.pc_presentation.specs.declared.relation.Relation.TheVariants.{Power, Commutator}
 use Rattle.pc_presentation.specs.Syllable.{spread}
-use Rattle.pc_presentation.specs.Relation.{IsRelation, PerRelation, side_start, entry_at, per_relation, relation_number}
+use Rattle.pc_presentation.specs.Relation.{IsRelation, PerRelation, side_start, entry_at, per_relation}
 use Rattle.pc_presentation.specs.Pcp.{HasShape, sides_of, right_side, side_word}
 use Rattle.pc_presentation.specs.Builder.{Draft, empty_draft, extended}
-use Rattle.pc_presentation.proofs.presentations.RelationNumbers.{relation_number-injective}
+use Rattle.pc_presentation.proofs.presentations.RelationNumbers.{same_or_other}
 use Rattle.pc_presentation.proofs.presentations.RelationTables.{entry_at-per_relation, per_relation-shape}
 use Rattle.pc_presentation.proofs.presentations.SideLaws.{spread-side_word}
 use Rattle.pc_presentation.proofs.normal_tables.EntryLaws.{with_entry-shape, entry_at-with_entry_same, entry_at-with_entry_other, same_tables}
@@ -53,12 +53,6 @@ module _ (A : Answer) (is : IsPresentation A.presentation) where
   presentation-shape : HasShape A.presentation.rank (sides_of A.presentation)
   presentation-shape = record { power_count = is.power_count; row_count = is.commutator_count; row_lengths = is.commutator_counts }
 
-  same_or_other : (q r : Relation) → IsRelation A.presentation.rank q → IsRelation A.presentation.rank r → (q ≡ r) ⊎ (q ≢ r)
-  same_or_other q r l h = elim (cases_eq (relation_number A.presentation.rank q) (relation_number A.presentation.rank r)) [
-    | inl e ↦ inl (relation_number-injective A.presentation.rank q r l h e)
-    | inr ne ↦ inr (λ (e : q ≡ r). ne (ap (relation_number A.presentation.rank) e))
-  ]
-
   module _ (n : ℕ) where
     -- one relation more
     pub draft-more : (a b c a' b' c' : ℕ) (D E : Draft) (r : Relation) → IsRelation A.presentation.rank r
@@ -79,7 +73,7 @@ module _ (A : Answer) (is : IsPresentation A.presentation) where
           tails = d.tails;
           side_shape = with_entry-shape A.presentation.rank (sides_of D.built.presentation) [] d.side_shape r side h;
           given_shape = with_entry-shape A.presentation.rank D.given false d.given_shape r true h;
-          sides = λ s l m. elim (same_or_other s r l h) [
+          sides = λ s l m. elim (same_or_other A.presentation.rank s r l h) [
             | inl same ↦ subst (λ (x : Relation). right_side F.built.presentation x ≡ right_side A.presentation x) (sym same) here
             | inr other ↦
                 entry_at-with_entry_other A.presentation.rank (sides_of D.built.presentation) [] d.side_shape r side h s l other
@@ -88,7 +82,7 @@ module _ (A : Answer) (is : IsPresentation A.presentation) where
                   | inr same ↦ absurd (other same)
                 ]
           ];
-          given = λ s l g. elim (same_or_other s r l h) [
+          given = λ s l g. elim (same_or_other A.presentation.rank s r l h) [
             | inl same ↦ subst (IsAmong n a' b' c') (sym same) last
             | inr other ↦
                 still s (d.given s l (sym (entry_at-with_entry_other A.presentation.rank D.given false d.given_shape r true h s l other) ∙ g))

@@ -54,13 +54,15 @@ module _ (Y : RowedPresentation) (rowed : IsRowed Y) (big : 1 < Y.base.prime) wh
   ways-run (own i) h =
       last-step (i ∷ []) (replicate Y.base.prime i) (spelled (suc i) (power_side Y.base i)) (power_row Y i) (power i h) (rowed.power_rows i h)
 
-  right_way-row : (o : Overlap) → IsOverlap Y.base.rank o → IsNormal Y.base.prime Y.width (right_way Y o).row
+  -- the row that the right way adds
+  pub right_way-row : (o : Overlap) → IsOverlap Y.base.rank o → IsNormal Y.base.prime Y.width (right_way Y o).row
   right_way-row (triple k j i) h = let a = h.0 in let b = h.1 in let c = h.2 in rowed.commutator_rows j i (omega arith) a
   right_way-row (left j i) h = rowed.commutator_rows j i h.1 h.0
   right_way-row (right j i) h = let a = h.0 in let b = h.1 in rowed.power_rows i (omega arith)
   right_way-row (own i) h = rowed.power_rows i h
 
-  left_way-row : (o : Overlap) → IsNormal Y.base.prime Y.width (left_way Y o).row
+  -- and the left way's
+  pub left_way-row : (o : Overlap) → IsNormal Y.base.prime Y.width (left_way Y o).row
   left_way-row (triple k j i) = zeros-normal Y.base.prime Y.width (omega arith)
   left_way-row (left j i) = zeros-normal Y.base.prime Y.width (omega arith)
   left_way-row (right j i) = zeros-normal Y.base.prime Y.width (omega arith)

@@ -1,7 +1,7 @@
 -- Where both ways of an overlap reach the same exponents, the difference of their rows is a trivial word: the ends of the two
 -- ways are joined, equal exponents cancel, and what is added to the one row to make the other is trivial. Over a consistent
 -- base they do.
-use Rattle.std.proofs.Common.{◌≡◌, ℕ, ◌<◌, List, [], ◌++◌, sym, ◌∙◌, subst, arith}
+use Rattle.std.proofs.Common.{◌≡◌, ℕ, ◌<◌, List, [], ◌++◌, sym, ◌∙◌, subst}
 use Rattle.pq_base.specs.Presentation.{IsNormal, word_from}
 use Rattle.pq_base.specs.Joined.{Joined, IsConsistent}
 use Rattle.pq_base.proofs.words.JoinedLaws.{joined-trans, joined-cancel_left, joined-cancel_right}
@@ -11,13 +11,11 @@ use Rattle.fp_rows.proofs.DifferenceLaws.{IsRow-difference, difference-add_rows}
 use Rattle.pc_presentation.specs.Rowed.{RowedPresentation, IsRowed, row_sum, flat}
 use Rattle.pc_presentation.specs.Collection.{State, IsState, spelled, letters}
 use Rattle.pc_presentation.specs.Overlaps.{Overlap, IsOverlap, left_way, right_way}
-use Rattle.pc_presentation.specs.Overlaps.Overlap.{triple, left, right, own}
 use Rattle.pc_presentation.specs.Arithmetic.{IsMeaning, word_of}
 use Rattle.pc_presentation.specs.OverlapRows.{left_end, right_end, ExponentsAgree, overlap_row}
-use Rattle.pc_presentation.proofs.rows.RowLaws.{zeros-normal}
 use Rattle.pc_presentation.proofs.consistent.Consistency.{left_way-below, right_way-below}
 use Rattle.pc_presentation.proofs.rows.TailLaws.{row_words-add}
-use Rattle.pc_presentation.proofs.consistent.ConsistentOverlaps.{end-state, ways-joined, ways-over_base}
+use Rattle.pc_presentation.proofs.consistent.ConsistentOverlaps.{left_way-row, right_way-row, end-state, ways-joined, ways-over_base}
 use Rattle.pc_presentation.proofs.rows.RowsCentral.{row_sum-add_rows}
 
 module _ (Y : RowedPresentation) (rowed : IsRowed Y) (big : 1 < Y.base.prime) where
@@ -38,25 +36,12 @@ module _ (Y : RowedPresentation) (rowed : IsRowed Y) (big : 1 < Y.base.prime) wh
       (row_words-add Y rowed (difference Y.base.prime x y) y drow.count m.count) in
       joined-cancel_right (word_from Y.base.rank y) (word_from Y.base.rank d) [] (joined-trans added same)
 
-  -- the rows that the two ways add
-  left_way-row : (o : Overlap) → IsNormal Y.base.prime Y.width (left_way Y o).row
-  left_way-row (triple k j i) = zeros-normal Y.base.prime Y.width (omega arith)
-  left_way-row (left j i) = zeros-normal Y.base.prime Y.width (omega arith)
-  left_way-row (right j i) = zeros-normal Y.base.prime Y.width (omega arith)
-  left_way-row (own i) = zeros-normal Y.base.prime Y.width (omega arith)
-
-  right_way-row : (o : Overlap) → IsOverlap Y.base.rank o → IsNormal Y.base.prime Y.width (right_way Y o).row
-  right_way-row (triple k j i) h = let a = h.0 in let b = h.1 in let c = h.2 in rowed.commutator_rows j i (omega arith) a
-  right_way-row (left j i) h = rowed.commutator_rows j i h.1 h.0
-  right_way-row (right j i) h = let a = h.0 in let b = h.1 in rowed.power_rows i (omega arith)
-  right_way-row (own i) h = rowed.power_rows i h
-
   module _ (push : State → ℕ → State) (meaning : IsMeaning Y push) (o : Overlap) (h : IsOverlap Y.base.rank o) where
     pub left_end-state : IsState Y Y.base.rank (left_end Y push o)
-    left_end-state = end-state Y rowed big push meaning (left_way Y o) (left_way-below Y rowed big o h) (left_way-row o)
+    left_end-state = end-state Y rowed big push meaning (left_way Y o) (left_way-below Y rowed big o h) (left_way-row Y rowed big o)
 
     pub right_end-state : IsState Y Y.base.rank (right_end Y push o)
-    right_end-state = end-state Y rowed big push meaning (right_way Y o) (right_way-below Y rowed big o h) (right_way-row o h)
+    right_end-state = end-state Y rowed big push meaning (right_way Y o) (right_way-below Y rowed big o h) (right_way-row Y rowed big o h)
 
     pub overlap_row-row : IsRow Y.base.prime Y.width (overlap_row Y push o)
     overlap_row-row =

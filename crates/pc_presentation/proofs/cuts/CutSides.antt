@@ -5,7 +5,7 @@ use Rattle.std.proofs.lemmas.List.{length-take-le, length-map}
 use Rattle.std.proofs.lemmas.Bool.{cases_lt}
 use Rattle.std.proofs.Math.ListN.{get_or-map}
 use Rattle.pq_base.specs.SignedWord.{inv, copies, comm, sub}
-use Rattle.pq_base.specs.Presentation.{Presentation, IsPresentation, IsLaterSide, IsRelatorOf, letter, word_from, power_side, commutator_side, power_word, commutator_word}
+use Rattle.pq_base.specs.Presentation.{Presentation, IsPresentation, IsLaterSide, IsRelatorOf, letter, word_from, normal_word, power_side, commutator_side, power_word, commutator_word}
 use Rattle.pq_base.specs.Presentation.IsRelatorOf.{power_relator, commutator_relator}
 use Rattle.pq_base.specs.Joined.{Joined}
 use Rattle.pq_base.specs.Series.{InSeries}
@@ -69,6 +69,13 @@ sub-word_from m q k (suc r) (x ∷ e) c =
     ∙ ap₂ (λ (u v : List ℤ). u ++ v)
     (sub-copies (letter k) x (projection m q) ∙ ap (λ (w : List ℤ). copies w x) stays)
     (sub-word_from m q (suc k) r e (omega arith))
+
+-- the words of several lists
+pub images-cut : (m q : ℕ) (es : List (List ℕ))
+    → map (λ (u : List ℤ). sub u (projection m q)) (map normal_word es) ≡ map normal_word (map (take m) es)
+images-cut m q [] = refl
+images-cut m q (e ∷ es) =
+    ap₂ (λ (w : List ℤ) (ws : List (List ℤ)). w ∷ ws) (sub-word_from m q 0 m e (omega arith)) (images-cut m q es)
 
 module _ (P : Presentation) (is : IsPresentation P) (m : ℕ) (within : m ≤ P.rank) where
   abbrev C : Presentation

@@ -1,6 +1,6 @@
 -- The numbers of the relations of n generators are below their count, and no two relations share one.
-use Rattle.std.proofs.Common.{◌≡◌, ℕ, zero, suc, ◌+◌, ◌-◌, ◌*◌, ◌/◌, ◌<◌, ◌≤◌, refl, ap, sym, ◌∙◌, subst, arith, inl, inr}
-use Rattle.std.proofs.lemmas.Bool.{cases_lt}
+use Rattle.std.proofs.Common.{◌≡◌, ◌≢◌, ◌⊎◌, ℕ, zero, suc, ◌+◌, ◌-◌, ◌*◌, ◌/◌, ◌<◌, ◌≤◌, refl, ap, sym, ◌∙◌, subst, arith, inl, inr}
+use Rattle.std.proofs.lemmas.Bool.{cases_eq, cases_lt}
 use Rattle.pq_base.specs.Limits.{max_rank}
 use Rattle.pc_presentation.specs.declared.relation.Relation.{Relation}
 use Rattle.pc_presentation.specs.declared.relation.Relation.TheVariants.{Power, Commutator}
@@ -53,6 +53,13 @@ relation_number-injective n (Commutator j i) (Commutator l k) h m e =
     let same_j : j ≡ l = omega arith in
     let same_i : i ≡ k = omega arith in
     ap (λ (x : ℕ). Commutator x i) same_j ∙ ap (Commutator l) same_i
+
+-- two relations are one or not
+pub same_or_other : (n : ℕ) (q r : Relation) → IsRelation n q → IsRelation n r → (q ≡ r) ⊎ (q ≢ r)
+same_or_other n q r l h = elim (cases_eq (relation_number n q) (relation_number n r)) [
+  | inl e ↦ inl (relation_number-injective n q r l h e)
+  | inr ne ↦ inr (λ (e : q ≡ r). ne (ap (relation_number n) e))
+]
 
 pub triangular_limit : (n : ℕ) → n ≤ max_rank → triangular n ≤ triangular max_rank
 triangular_limit n h = triangular_mono n max_rank h

@@ -1,8 +1,10 @@
 -- Sparse words and lists of exponents are two forms of one thing: each function undoes the other, and both have the same
 -- letters.
-use Rattle.std.proofs.Common.{◌≡◌, ◌≢◌, ℕ, zero, suc, ◌+◌, ◌<◌, ◌≤◌, ℤ, pos, Bool, true, false, cond, eqb, List, [], ◌∷◌, ◌++◌, length, refl, ap, sym, ◌∙◌, subst, arith}
+use Rattle.std.proofs.Common.{◌≡◌, ◌≢◌, ℕ, zero, suc, ◌+◌, ◌-◌, ◌<◌, ◌≤◌, ℤ, pos, Bool, true, false, cond, eqb, List, [], ◌∷◌, ◌++◌, length, get_or, take, refl, ap, sym, ◌∙◌, subst, arith, append_assoc}
+use Rattle.std.proofs.lemmas.List.{append-nil, take_more}
 use borrow.Author.Tests.{eqb-true, eqb-false, eq-eqb}
-use Rattle.pq_base.specs.SignedWord.{copies}
+use Rattle.pq_base.specs.SignedWord.{copies, sub}
+use Rattle.pq_base.proofs.words.WordLaws.{sub-letter}
 use Rattle.pq_base.specs.Table.{AllBelow}
 use Rattle.pq_base.specs.Presentation.{word_from}
 use Rattle.pc_presentation.specs.declared.syllable.Syllable.{Syllable}
@@ -124,6 +126,27 @@ letters_of-syllables_of k [] = refl
 letters_of-syllables_of k (zero ∷ es) = letters_of-syllables_of (suc k) es
 letters_of-syllables_of k (suc e ∷ es) =
     ap (λ (w : List ℤ). copies (pos (suc k) ∷ []) (suc e) ++ w) (letters_of-syllables_of (suc k) es)
+
+-- the letters of two words, one behind the other
+pub letters_of-append : (u v : List Syllable) → letters_of (u ++ v) ≡ letters_of u ++ letters_of v
+letters_of-append [] v = refl
+letters_of-append (s ∷ u) v =
+    ap (λ (w : List ℤ). copies (pos s.generator ∷ []) s.exponent ++ w) (letters_of-append u v)
+    ∙ sym (append_assoc (copies (pos s.generator ∷ []) s.exponent) (letters_of u) (letters_of v))
+
+-- the letters of the first syllables, one syllable more
+pub letters_of-more : (w : List Syllable) (i : ℕ) (d : Syllable) → i < length w
+    → letters_of (take (i + 1) w) ≡ letters_of (take i w) ++ copies (pos (get_or w i d).generator ∷ []) (get_or w i d).exponent
+letters_of-more w i d l =
+    ap letters_of (take_more w i d l)
+    ∙ letters_of-append (take i w) (get_or w i d ∷ [])
+    ∙ ap (λ (x : List ℤ). letters_of (take i w) ++ x) (append-nil (copies (pos (get_or w i d).generator ∷ []) (get_or w i d).exponent))
+
+-- the value of the letter of a generator, counted from 1
+pub sub-number : (g : ℕ) (words : List (List ℤ)) → 1 ≤ g → sub (pos g ∷ []) words ≡ get_or words (g - 1) []
+sub-number g words l =
+    let e : g ≡ suc (g - 1) = omega arith in
+    ap (λ (n : ℕ). sub (pos n ∷ []) words) e ∙ sub-letter (g - 1) words
 
 pub sparse_words_are_exponents : SparseWordsAreExponents
 sparse_words_are_exponents = record {

@@ -22,12 +22,13 @@ get_or-followed_by (x ∷ xs) [] i e = absurd (omega arith)
 get_or-followed_by (x ∷ xs) (y ∷ ys) zero e = refl
 get_or-followed_by (x ∷ xs) (y ∷ ys) (suc i) e = get_or-followed_by xs ys i (omega arith)
 
-length-tables_followed_by : (xs ys : List (List (List ℕ))) → length xs ≡ length ys → length (tables_followed_by xs ys) ≡ length xs
+-- tables followed by tables
+pub length-tables_followed_by : (xs ys : List (List (List ℕ))) → length xs ≡ length ys → length (tables_followed_by xs ys) ≡ length xs
 length-tables_followed_by [] ys e = refl
 length-tables_followed_by (x ∷ xs) [] e = absurd (omega arith)
 length-tables_followed_by (x ∷ xs) (y ∷ ys) e = ap suc (length-tables_followed_by xs ys (omega arith))
 
-get_or-tables_followed_by : (xs ys : List (List (List ℕ))) (i : ℕ) → length xs ≡ length ys
+pub get_or-tables_followed_by : (xs ys : List (List (List ℕ))) (i : ℕ) → length xs ≡ length ys
     → get_or (tables_followed_by xs ys) i [] ≡ followed_by (get_or xs i []) (get_or ys i [])
 get_or-tables_followed_by [] [] i e = refl
 get_or-tables_followed_by [] (y ∷ ys) i e = absurd (omega arith)
@@ -35,8 +36,8 @@ get_or-tables_followed_by (x ∷ xs) [] i e = absurd (omega arith)
 get_or-tables_followed_by (x ∷ xs) (y ∷ ys) zero e = refl
 get_or-tables_followed_by (x ∷ xs) (y ∷ ys) (suc i) e = get_or-tables_followed_by xs ys i (omega arith)
 
--- the right sides of tails
-length-tail_powers : (q : ℕ) → length (tail_powers q) ≡ q
+-- the right sides of tails: as many powers as tails, and as many lists of commutators
+pub length-tail_powers : (q : ℕ) → length (tail_powers q) ≡ q
 length-tail_powers zero = refl
 length-tail_powers (suc q) = ap suc (length-tail_powers q)
 
@@ -45,7 +46,7 @@ get_or-tail_powers zero t r e = absurd (omega arith)
 get_or-tail_powers (suc q) zero r e = ap (λ (m : ℕ). replicate m 0) (let h : q ≡ r = omega arith in h)
 get_or-tail_powers (suc q) (suc t) r e = get_or-tail_powers q t r (omega arith)
 
-length-tail_commutators : (n q : ℕ) → length (tail_commutators n q) ≡ q
+pub length-tail_commutators : (n q : ℕ) → length (tail_commutators n q) ≡ q
 length-tail_commutators n zero = refl
 length-tail_commutators n (suc q) = ap suc (length-tail_commutators (suc n) q)
 

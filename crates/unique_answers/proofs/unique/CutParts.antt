@@ -1,9 +1,9 @@
 -- The parts of an answer that is cut to a class: weights and definitions of the generators that stay are as before, and right sides
 -- and images are cut.
-use Rattle.std.proofs.Common.{◌≡◌, ℕ, suc, ◌+◌, ◌-◌, ◌<◌, ℤ, List, [], ◌∷◌, get_or, length, map, take, refl, ap, ap₂, sym, ◌∙◌, arith}
+use Rattle.std.proofs.Common.{◌≡◌, ℕ, suc, ◌+◌, ◌-◌, ◌<◌, ℤ, List, [], get_or, length, map, take, ap, sym, ◌∙◌, arith}
 use Rattle.std.proofs.lemmas.List.{get_or-take, get_or-map, length-take-le, length-map}
 use Rattle.pq_base.specs.SignedWord.{sub}
-use Rattle.pq_base.specs.Presentation.{letter, word_from, normal_word, power_side, commutator_side}
+use Rattle.pq_base.specs.Presentation.{letter, word_from, power_side, commutator_side}
 use Rattle.pq_base.specs.Answer.{Answer, IsAnswer, weight_at, definition_at, image_words}
 use Rattle.pq_base.specs.Answer.Definition.{image}
 use Rattle.pq_base.specs.Canonical.{rank_up_to, up_to_class}
@@ -12,7 +12,7 @@ use Rattle.pq_base.proofs.words.LetterLaws.{HasLetters-letter}
 use Rattle.pc_presentation.specs.RowedLaws.{projection}
 use Rattle.pc_presentation.specs.CutLaws.{cut_word}
 use Rattle.pc_presentation.proofs.rows.Projections.{sub-projection}
-use Rattle.pc_presentation.proofs.cuts.CutSides.{sub-word_from, power_side-cut, commutator_side-cut}
+use Rattle.pc_presentation.proofs.cuts.CutSides.{sub-word_from, images-cut, power_side-cut, commutator_side-cut}
 use Rattle.cover_quotient.proofs.canonical_answers.ClassesByWeight.{rank-within}
 
 -- a word that is one of the first n generators alone stays where it is cut
@@ -59,15 +59,8 @@ module _ (A : Answer) (is : IsAnswer A) (k : ℕ) where
   cut-commutator_side j i l = commutator_side-cut A.presentation is.presentation n (rank-within A is k) j i l
 
   -- the words of the images are cut
-  images-cut : (es : List (List ℕ)) → map normal_word (map (take n) es) ≡ map (cut_word n A.presentation) (map normal_word es)
-  images-cut [] = refl
-  images-cut (e ∷ es) =
-      let first : normal_word (take (rank_up_to A k) e) ≡ cut_word (rank_up_to A k) A.presentation (normal_word e) =
-      sym (sub-word_from n (A.presentation.rank - n) 0 n e (omega arith)) in
-      ap₂ (λ (w : List ℤ) (ws : List (List ℤ)). w ∷ ws) first (images-cut es)
-
   cut-image_words : image_words (up_to_class A k) ≡ map (cut_word (rank_up_to A k) A.presentation) (image_words A)
-  cut-image_words = images-cut A.images
+  cut-image_words = sym (images-cut n (A.presentation.rank - n) A.images)
 
   -- so are the words over them
   pub cut-value : (w : List ℤ) → sub w (image_words (up_to_class A k)) ≡ cut_word (rank_up_to A k) A.presentation (sub w (image_words A))

@@ -1,6 +1,7 @@
 //! Reading an answer's text, a line at a time.
 
-ghost use Rattle.std.specs.Prelude.{◌≡◌, ◌<◌, ◌-◌, ◌^◌, ℕ, length, map, IfOk, IfErr, IfSome, IfNone};
+ghost use Rattle.std.specs.Prelude.{◌≡◌, ◌<◌, ◌-◌, ◌^◌, ℕ, All, length, map, IfOk, IfErr, IfSome, IfNone};
+ghost use Rattle.pq_base.specs.Name.{IsName};
 ghost use Rattle.pc_presentation.specs.Definition.{definition_of};
 ghost use Rattle.pc_presentation.specs.Parts.{words_of};
 ghost use Rattle.answer_text.specs.AnswerFaults.{IsAnswerText, IsFaultOf};
@@ -8,6 +9,7 @@ ghost use Rattle.answer_text.specs.AnswerPlaces.Place.{for_prime};
 ghost use Rattle.answer_text.specs.AnswerText.{answer_text};
 ghost use Rattle.answer_text.specs.BodyRead.{IsRead};
 ghost use Rattle.answer_text.specs.Drafts.{so_far};
+ghost use Rattle.answer_text.specs.OneText.{IsWritable};
 ghost use Rattle.answer_text.specs.ReadSoFar.{IsBadAt};
 ghost use Rattle.answer_text.specs.Sources.{AreResolved};
 
@@ -22,16 +24,42 @@ use pc_presentation::{Answer, Definition, PcpBuilder};
 use pq_base::{Name, NoMemory};
 use std::alloc::Global;
 
-/// The answer that a text is, or the line of its first fault.
+/// The answer that a text is, or the line of its first fault, counted from 1.
+///
+/// The text is that which `text` writes of an answer: no other text of it is read. Lines are judged one by one, and the fault is at the first
+/// that hasn't the form of a line in its place; for bytes that end early it is behind the last whole line. What only all lines together break
+/// is a fault at the last line. `NoMemory` tells nothing about the bytes. There may be at most 2^32 - 2 bytes, so that the numbers of lines
+/// are in range.
 pub fn read_answer(alloc: Global, bytes: &[u8]) -> Result<Answer, AnswerFault>
     requires { length bytes.now < 2 ^ 32 - 1 }
     ensures ok { IfOk result (λ a. bytes.now ≡ answer_text a) }
+    ensures writable { IfOk result (λ a. IsWritable a) }
     ensures fault { IfErr result (IsFaultOf bytes.now) }
 {
     let Reading { sources, body, end } = read_lines(alloc, bytes)?;
     match answer_of(alloc, bytes, &sources, body)? {
-        Some(answer) => Ok(answer),
+        Some(answer) => {
+            keeps_limits(&answer);
+            Ok(answer)
+        }
         None => Err(AnswerFault::Line(end)),
+    }
+}
+
+/// That an answer keeps the limits of texts: the calls are made for what their contracts say of it. Takes a step for each of its names.
+fn keeps_limits(answer: &Answer)
+    ensures { IsWritable answer.now }
+{
+    let _rank = answer.pcp().rank();
+    are_names(answer.names());
+}
+
+/// That each name is one.
+fn are_names(names: &[Name])
+    ensures { All IsName names.now }
+{
+    for name in names {
+        let _bytes = name.bytes();
     }
 }
 

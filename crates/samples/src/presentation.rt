@@ -1,4 +1,5 @@
-// The presentation of a sample.
+//! The presentation of a sample.
+
 ghost use Rattle.std.specs.Prelude.{◌≡◌, ◌≤◌, [], ◌∷◌, ℕ, ℤ, List, All, IfOk, map, length};
 ghost use Rattle.lpres_reader.specs.Parts.{IsPresentationWithinLimits};
 ghost use Rattle.lpres_reader.specs.Presentations.{made_of};

@@ -7,6 +7,7 @@ pub mod ImagesTold
 pub mod GeneratorsTold
 pub mod HeadTold
 pub mod OneText
+pub mod Limits
 pub mod FormLaws
 pub mod AnswerForm
 mod FirstPlaces

@@ -2,7 +2,10 @@
 //! and `json` writes the one JSON text. What the texts are is a function of the answer in `specs/`.
 #![tactic(auto)]
 
+mod body_reading;
 pub mod fault;
+mod generator_reading;
+mod head_reading;
 mod json_text;
 pub mod laws;
 mod line_reading;

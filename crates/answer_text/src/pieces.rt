@@ -1,6 +1,8 @@
-//! Pieces of a line: numbers, syllables and the left sides of relations. Each is read where it is written exactly so.
+//! Lines at the front of a text, and pieces of a line: numbers, syllables and the left sides of relations. Each is read where it is written
+//! exactly so.
 
-ghost use Rattle.std.specs.Prelude.{◌≡◌, ◌<◌, ◌-◌, ℕ, false, true, List, [], ◌∷◌, ◌++◌, IfSome, IfNone, ◌==◌, codes, decimal};
+ghost use Rattle.std.specs.Prelude.{◌≡◌, ◌<◌, ◌≤◌, ◌+◌, ◌-◌, ◌↔◌, ℕ, false, true, List, [], ◌∷◌, ◌++◌, ◌==◌};
+ghost use Rattle.std.specs.Prelude.{length, IsTrue, IfSome, IfNone, codes, decimal};
 ghost use Rattle.std.specs.List.{position};
 ghost use Rattle.pc_presentation.specs.declared.relation.Relation.TheVariants.{Power, Commutator};
 ghost use Rattle.pc_presentation.specs.declared.syllable.Syllable.{Syllable as SyllableRecord};
@@ -14,6 +16,13 @@ ghost use Rattle.answer_text.specs.AnswerText.{commutator_text, power_text};
 
 use pc_presentation::{Relation, Syllable};
 
+/// Whether two texts are the same.
+pub fn are_same(left: &[u8], right: &[u8]) -> bool
+    ensures { IsTrue result ↔ (left.now ≡ right.now) }
+{
+    left == right
+}
+
 /// What stands before the first such byte, and what stands behind it.
 pub fn split_at_first(text: &[u8], byte: u8) -> Option<(&[u8], &[u8])>
     ensures some { IfSome result (λ s. text.now ≡ s.0.now ++ byte ∷ s.1.now) }
@@ -26,10 +35,21 @@ pub fn split_at_first(text: &[u8], byte: u8) -> Option<(&[u8], &[u8])>
     }
 }
 
+/// The place of the first such byte.
 fn first(text: &[u8], byte: u8) -> Option<usize>
     ensures { result ≡ position (λ b. b == byte) text.now }
 {
     text.iter().position(|b| *b == byte)
+}
+
+/// The next line and what follows it, where there is a whole line.
+pub fn next_line(text: &[u8]) -> Option<(&[u8], &[u8])>
+    ensures some { IfSome result (λ x. text.now ≡ x.0.now ++ 10 ∷ x.1.now) }
+    ensures first { IfSome result (λ x. avoids 10 x.0.now ≡ true) }
+    ensures shorter { IfSome result (λ x. length x.1.now + 1 ≤ length text.now) }
+    ensures none { IfNone result (avoids 10 text.now ≡ true) }
+{
+    split_at_first(text, b'\n')
 }
 
 /// What stands behind a keyword.
@@ -48,6 +68,7 @@ pub(crate) fn number(text: &[u8]) -> Option<u16>
     value(text)
 }
 
+/// The number of up to three digits, of which the first is 0 only where it is the last.
 fn value(text: &[u8]) -> Option<u16>
     ensures { result ≡ number_of text.now }
 {
@@ -71,7 +92,8 @@ fn value(text: &[u8]) -> Option<u16>
     }
 }
 
-fn is_digit(byte: u8) -> bool
+/// Whether a byte is a digit.
+pub fn is_digit(byte: u8) -> bool
     ensures { result ≡ is_digit byte }
 {
     matches!(byte, b'0'..=b'9')

@@ -1,21 +1,15 @@
 //! Canonical texts of presentations.
 
-ghost use Rattle.std.specs.Prelude.{◌≡◌, ◌<◌, ◌-◌, ◌^◌, ◌↔◌, length, IfOk, IfSome, IfNone, IsTrue};
+ghost use Rattle.std.specs.Prelude.{◌≡◌, ◌<◌, ◌-◌, ◌^◌, length, IfOk, IfSome, IfNone};
 ghost use Rattle.pq_base.specs.LPresentation.{LPresentation};
 ghost use Rattle.lpres_reader.specs.CanonicalText.{canonical_text};
 ghost use Rattle.lpres_reader.specs.Reads.{Reads};
 ghost use Rattle.cert_text.specs.CertificateText.{HasText};
 
+use answer_text::pieces::are_same;
 use lpres_reader::{LPres, ReadRefusal};
 use pq_base::NoMemory;
 use std::alloc::Global;
-
-/// Whether two texts are the same.
-fn are_same(left: &[u8], right: &[u8]) -> bool
-    ensures { IsTrue result ↔ (left.now ≡ right.now) }
-{
-    left == right
-}
 
 /// The presentation of which this is the canonical text, or `None` where it is that of none.
 pub(crate) fn canonical(alloc: Global, text: &[u8]) -> Result<Option<LPres>, NoMemory>

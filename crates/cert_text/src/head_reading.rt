@@ -9,7 +9,7 @@ ghost use Rattle.cert_text.specs.CertificatePlaces.Place.{in_presentation};
 ghost use Rattle.cert_text.specs.ReadSoFar.{IsBadAt, GoesOnWithP, IsSizeRead};
 
 use crate::fault::CertFault;
-use crate::line_splitting::next_line;
+use answer_text::pieces::next_line;
 use answer_text::{class_line, prime_line};
 use pq_base::Prime;
 

@@ -6,7 +6,6 @@ mod canonical_reading;
 pub mod fault;
 mod head_reading;
 pub mod laws;
-mod line_splitting;
 mod number_reading;
 mod numbers;
 mod numbers_reading;

@@ -5,12 +5,7 @@ ghost use Rattle.std.specs.List.{prefix_len};
 ghost use Rattle.answer_text.specs.Numbers.{is_digit};
 ghost use Rattle.cert_text.specs.NumberFronts.{is_no_digit, AllFail, StartsWell, is_padded};
 
-/// Whether a byte is a digit.
-fn is_digit(byte: u8) -> bool
-    ensures { result ≡ is_digit byte }
-{
-    b'0' <= byte && byte <= b'9'
-}
+use answer_text::pieces::is_digit;
 
 /// How many digits stand at the front of a text.
 fn digits_at_front(text: &[u8]) -> usize

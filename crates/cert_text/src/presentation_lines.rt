@@ -5,7 +5,7 @@ ghost use Rattle.std.specs.Prelude.{◌≡◌, ◌<◌, ◌≤◌, ◌+◌, ◌-
 ghost use Rattle.cert_text.specs.ReadSoFar.{begins_with_p, GoesOnWithP, AreItemLines, first_lines, IsCanonical, IsCanonicalTo};
 
 use crate::canonical_reading::canonical;
-use crate::line_splitting::next_line;
+use answer_text::pieces::next_line;
 use pq_base::NoMemory;
 use std::alloc::Global;
 

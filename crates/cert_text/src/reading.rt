@@ -1,7 +1,6 @@
 //! Reading a certificate's text.
 
-ghost use Rattle.std.specs.Prelude.{◌≡◌, ◌<◌, ◌≤◌, ◌+◌, ◌-◌, ◌^◌, All, length, IfOk, IfErr};
-ghost use Rattle.pq_base.specs.Name.{IsName};
+ghost use Rattle.std.specs.Prelude.{◌≡◌, ◌<◌, ◌≤◌, ◌+◌, ◌-◌, ◌^◌, length, IfOk, IfErr};
 ghost use Rattle.pq_base.specs.Prime.{prime_value};
 ghost use Rattle.answer_text.specs.AnswerText.{answer_text};
 ghost use Rattle.answer_text.specs.OneText.{IsWritable as IsWritableAnswer};
@@ -20,7 +19,7 @@ use answer_text::{AnswerFault, read_answer};
 use derivation_log::Cert;
 use lpres_reader::LPres;
 use pc_presentation::Answer;
-use pq_base::{Name, Prime};
+use pq_base::Prime;
 use std::alloc::Global;
 
 /// The certificate that a text is, or the line of its first fault, counted from 1.
@@ -28,7 +27,8 @@ use std::alloc::Global;
 /// The text is that which `write` writes of a certificate of version 1: no other text of it is read. Whether the certificate is valid is
 /// another matter. Lines are judged one by one, and the fault is at the first that hasn't the form of a line in its place; for bytes that
 /// end early it is behind the last whole line. What only all lines of the answer together break, and an answer whose prime or whose names
-/// aren't those of the certificate, is a fault at the last line, the answer's end. `NoMemory` tells nothing about the bytes.
+/// aren't those of the certificate, is a fault at the last line, the answer's end. `NoMemory` tells nothing about the bytes. There may be at
+/// most 2^32 - 2 bytes, so that the numbers of lines are in range.
 pub fn read(alloc: Global, bytes: &[u8]) -> Result<Cert, CertFault>
     requires { length bytes.now < 2 ^ 32 - 1 }
     ensures text { IfOk result (λ c. bytes.now ≡ certificate_text c) }
@@ -86,12 +86,12 @@ fn certificate(
     requires front { IsFrontRead bytes.now (head_of front.pres (prime_value front.prime) front.asked)
         front.runs.iterated.items front.runs.whole.items text.now number }
     requires answer { text.now ≡ answer_text answer }
+    requires writable { IsWritableAnswer answer }
     requires limit { length text.now + number < 2 ^ 32 }
     ensures text { IfOk result (λ c. bytes.now ≡ certificate_text c) }
     ensures writable { IfOk result (λ c. IsWritable c) }
     ensures fault { IfErr result (IsFaultOf bytes.now) }
 {
-    keeps_limits(&answer);
     let end = number - 1 + newlines(text);
     let Front {
         pres,
@@ -102,23 +102,6 @@ fn certificate(
     match Cert::of(pres, prime, asked, runs.iterated, runs.whole, answer) {
         Some(cert) => Ok(cert),
         None => Err(CertFault::Line(end)),
-    }
-}
-
-/// That an answer keeps the limits of texts: the calls are made for what their contracts say of it. Takes a step for each of its names.
-fn keeps_limits(answer: &Answer)
-    ensures { IsWritableAnswer answer.now }
-{
-    let _rank = answer.pcp().rank();
-    are_names(answer.names());
-}
-
-/// That each name is one.
-fn are_names(names: &[Name])
-    ensures { All IsName names.now }
-{
-    for name in names {
-        let _bytes = name.bytes();
     }
 }
 

@@ -7,9 +7,9 @@ ghost use Rattle.derivation_log.specs.CertificateForms.{is_source_in, are_source
 ghost use Rattle.cert_text.specs.CertificateText.{source_line as text_of_source, tail_line as text_of_tail};
 ghost use Rattle.cert_text.specs.ReadSoFar.{HasNoSource, HasNoTail, IsStepRead};
 
-use crate::line_splitting::next_line;
 use crate::source_reading::source_line;
 use crate::tail_reading::tail_line;
+use answer_text::pieces::next_line;
 use derivation_log::{CertStep, CertTail, RowSource, Run};
 use lpres_reader::LPres;
 use pq_base::{NoMemory, Prime};

@@ -1,4 +1,5 @@
-// Numbers that are drawn one after the other, and the words of the letters that they give.
+//! Numbers that are drawn one after the other, and the words of the letters that they give.
+
 ghost use Rattle.std.specs.Prelude.{◌≡◌, ◌<◌, OnOk, IfOk, ℕ};
 ghost use Rattle.samples.specs.Samples.{next_number, letter_of_number, number_after, drawn_word};
 

@@ -1,4 +1,5 @@
-// The names of the generators of a sample.
+//! The names of the generators of a sample.
+
 ghost use Rattle.std.specs.Prelude.{◌≡◌, ◌<◌, ◌++◌, IfOk, codes, decimal};
 ghost use Rattle.samples.specs.Samples.{sample_names};
 

@@ -1,4 +1,5 @@
-// The presentation of a sample.
+//! The presentation of a sample.
+
 ghost use Rattle.std.specs.Prelude.{◌≡◌, ◌≤◌, [], ◌∷◌, ℕ, ℤ, List, All, IfOk, map, length};
 ghost use Rattle.pq_base.specs.Limits.{max_sample};
 ghost use Rattle.lpres_reader.specs.Parts.{IsPresentationWithinLimits};

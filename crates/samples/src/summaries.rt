@@ -1,4 +1,5 @@
-// The summary of an answer of a sample.
+//! The summary of an answer of a sample.
+
 ghost use Rattle.std.specs.Prelude.{◌≡◌, ◌≤◌, ◌*◌, ◌∷◌, ℕ, IfOk, OnOk, length, sum, sum_by, get_or, string_bytes};
 ghost use Rattle.pq_base.specs.Canonical.{numbers_from};
 ghost use Rattle.pq_base.specs.Answer.{class_of};

@@ -1,4 +1,5 @@
-// Words that are short enough, from the words that are drawn.
+//! Words that are short enough, from the words that are drawn.
+
 ghost use Rattle.std.specs.Prelude.{◌≡◌, ◌<◌, ◌≤◌, ◌∷◌, [], ◌++◌, ◌+◌, ℕ, ℤ, pos, List, Ok, IfOk, length, map, neg_ℤ};
 ghost use Rattle.pq_base.specs.SignedWord.{inv};
 ghost use Rattle.free_words.specs.Letters.{AreLetters};

@@ -15,7 +15,7 @@ returns-in-Some-clause-text c =
     let F = c.args.front in
     let H : Head = head_of F.pres (prime_value F.prime) F.asked in
     let done = certificate-read c.args.bytes.now H F.runs.iterated.items F.runs.whole.items c.args.text.now c.args.number c.requires.front
-    c.args.answer c.keeps_limits.ensures c.requires.answer c.in-Some.ensures.conditions in
+    c.args.answer c.requires.writable c.requires.answer c.in-Some.ensures.conditions in
     done.1 ∙ ap (λ (x : Certificate). certificate_text x) (sym c.in-Some.ensures.some)
 
 pub returns-in-Some-clause-writable : goal.returns-in-Some-clause-writable
@@ -23,7 +23,7 @@ returns-in-Some-clause-writable c =
     let F = c.args.front in
     let H : Head = head_of F.pres (prime_value F.prime) F.asked in
     let done = certificate-read c.args.bytes.now H F.runs.iterated.items F.runs.whole.items c.args.text.now c.args.number c.requires.front
-    c.args.answer c.keeps_limits.ensures c.requires.answer c.in-Some.ensures.conditions in
+    c.args.answer c.requires.writable c.requires.answer c.in-Some.ensures.conditions in
     subst IsWritable (sym c.in-Some.ensures.some) done.0
 
 pub returns-in-None-clause-fault : goal.returns-in-None-clause-fault
@@ -32,4 +32,4 @@ returns-in-None-clause-fault c =
     let H : Head = head_of F.pres (prime_value F.prime) F.asked in
     subst (λ (n : ℕ). IsFaultLine c.args.bytes.now (c.args.number - 1 + n)) (sym c.newlines.ensures)
     (end-fault c.args.bytes.now H F.runs.iterated.items F.runs.whole.items c.args.text.now c.args.number c.requires.front c.args.answer
-    c.keeps_limits.ensures c.requires.answer c.in-None.ensures.none)
+    c.requires.writable c.requires.answer c.in-None.ensures.none)

@@ -10,7 +10,7 @@ use Rattle.answer_text.specs.AnswerPlaces.{Place, HasForm, order_of, relation_li
 use Rattle.answer_text.specs.AnswerPlaces.Place.{in_body}
 use Rattle.answer_text.specs.Drafts.{IsDraft}
 use Rattle.answer_text.proofs.DraftAdded.{refused-relation, IfOk-then, IfSome-at}
-use Rattle.answer_text.proofs.reading.add_line.Goals as goal
+use Rattle.answer_text.proofs.body_reading.add_line.Goals as goal
 
 pub returns-in-Some-clause-refused : goal.returns-in-Some-clause-refused
 returns-in-Some-clause-refused c =

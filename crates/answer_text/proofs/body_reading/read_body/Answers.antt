@@ -6,7 +6,7 @@ use Rattle.pc_presentation.specs.Parts.{words_of}
 use Rattle.answer_text.specs.Drafts.{SoFar, so_far}
 use Rattle.answer_text.proofs.BodyAdded.{IsBodyRead-next}
 use Rattle.answer_text.proofs.faults.BodyFaults.{no_line-body, bad_line-body, behind_end-body}
-use Rattle.answer_text.proofs.reading.read_body.Goals as goal
+use Rattle.answer_text.proofs.body_reading.read_body.Goals as goal
 
 pub returns-else-is_empty-clause-err : goal.returns-else-is_empty-clause-err
 returns-else-is_empty-clause-err c =

@@ -3,7 +3,7 @@ use Rattle.pq_base.specs.Prime.{prime_value}
 use Rattle.pq_base.proofs.PrimeLaws.{prime_value-offered}
 use Rattle.answer_text.specs.AnswerPlaces.Place.{for_prime, for_class}
 use Rattle.answer_text.proofs.lines.BadLines.{no-line, bad-line, no-prime, open-prime, prime-form, IsBadAt-before}
-use Rattle.answer_text.proofs.reading.read_head.Goals as goal
+use Rattle.answer_text.proofs.head_reading.read_head.Goals as goal
 
 pub returns-in_default-clause-err : goal.returns-in_default-clause-err
 returns-in_default-clause-err c = (0, omega arith, no-line for_prime c.args.bytes.now open-prime c.in_default.ensures.none)

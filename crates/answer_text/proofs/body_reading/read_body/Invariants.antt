@@ -3,7 +3,7 @@ use Rattle.pq_base.specs.Prime.{prime_value}
 use Rattle.pc_presentation.specs.Parts.{words_of}
 use Rattle.answer_text.specs.Drafts.{so_far}
 use Rattle.answer_text.specs.BodyRead.{IsBodyRead}
-use Rattle.answer_text.proofs.reading.read_body.Given as goal
+use Rattle.answer_text.proofs.body_reading.read_body.Given as goal
 
 -- each line has a byte at least, and the lines that were read, and what is left, are the text
 abbrev pub invariant-loop-line : goal.invariant-loop-line

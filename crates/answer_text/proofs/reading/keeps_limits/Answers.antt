@@ -1,7 +1,7 @@
 use Rattle.std.proofs.Common.{All, ℕ, List, subst}
 use Rattle.pq_base.specs.Name.{IsName}
-use Rattle.cert_text.proofs.Limits.{answer-writable, AreNames-All}
-use Rattle.cert_text.proofs.reading.keeps_limits.Goals as goal
+use Rattle.answer_text.proofs.Limits.{answer-writable, AreNames-All}
+use Rattle.answer_text.proofs.reading.keeps_limits.Goals as goal
 
 pub returns : goal.returns
 returns c =

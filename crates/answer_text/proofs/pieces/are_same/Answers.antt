@@ -1,6 +1,6 @@
 use Rattle.std.proofs.lemmas.Bool.Decides.{Decides-eqb}
 use Rattle.std.proofs.lemmas.Slice.Eq.{slice_eq-Decides}
-use Rattle.answer_text.proofs.reading.are_same.Goals as goal
+use Rattle.answer_text.proofs.pieces.are_same.Goals as goal
 
 pub returns : goal.returns
 returns c = let same = slice_eq-Decides Decides-eqb c.args.left.now c.args.right.now c.eq.result c.eq.ensures in (same.0, same.1)

@@ -7,7 +7,7 @@ use Rattle.answer_text.specs.AnswerPlaces.{IsScale, IsSource, source_line}
 use Rattle.answer_text.specs.AnswerPlaces.Place.{in_body}
 use Rattle.answer_text.proofs.GeneratorsRead.{length-push, legible-push, lines-push}
 use Rattle.answer_text.proofs.lines.BadLines.{no-line, bad-line, open-body, generators-bad, no-next-generator}
-use Rattle.answer_text.proofs.reading.read_generators.Goals as goal
+use Rattle.answer_text.proofs.generator_reading.read_generators.Goals as goal
 
 pub returns-in_default-clause-err : goal.returns-in_default-clause-err
 returns-in_default-clause-err c =

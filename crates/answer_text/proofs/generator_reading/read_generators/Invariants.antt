@@ -2,7 +2,7 @@ use Rattle.std.proofs.Common.{◌≡◌, ◌≤◌, ◌+◌, ◌++◌, length}
 use Rattle.pq_base.specs.Prime.{prime_value}
 use Rattle.pq_base.specs.Lines.{text_of_lines}
 use Rattle.answer_text.specs.ReadSoFar.{source_lines, AreSources}
-use Rattle.answer_text.proofs.reading.read_generators.Given as goal
+use Rattle.answer_text.proofs.generator_reading.read_generators.Given as goal
 
 -- the lines that were read, and what is left, are the text
 abbrev pub invariant-loop-k : goal.invariant-loop-k

@@ -1,6 +1,6 @@
 use Rattle.std.proofs.Common.{◌<◌, ℕ, List, get_or}
 use Rattle.pq_base.specs.Name.{IsName}
-use Rattle.cert_text.proofs.reading.are_names.Given as goal
+use Rattle.answer_text.proofs.reading.are_names.Given as goal
 
 -- those before this place are
 abbrev pub invariant-loop-name : goal.invariant-loop-name

@@ -4,7 +4,7 @@ use Rattle.answer_text.specs.AnswerPlaces.{order_line}
 use Rattle.answer_text.specs.AnswerPlaces.Place.{for_class, for_rank, for_order}
 use Rattle.answer_text.proofs.faults.FaultLaws.{IsFirstBad-step}
 use Rattle.answer_text.proofs.lines.BadLines.{no-line, bad-line, no-class, no-rank, no-order, open-class, open-rank, open-order, class-form, rank-form}
-use Rattle.answer_text.proofs.reading.read_size.Goals as goal
+use Rattle.answer_text.proofs.head_reading.read_size.Goals as goal
 
 pub returns-in_default-clause-err : goal.returns-in_default-clause-err
 returns-in_default-clause-err c = (0, omega arith, no-line (for_class (prime_value c.args.prime)) c.args.text.now (open-class (prime_value c.args.prime)) c.in_default.ensures.none)

@@ -4,12 +4,12 @@ use Rattle.std.proofs.Common.{◌≡◌, ◌<◌, ◌≤◌, ◌+◌, ℕ, zero,
 use Rattle.std.specs.Prelude.{codes}
 use Rattle.std.proofs.lemmas.List.{append_cancel_left}
 use Rattle.pq_base.specs.Limits.{max_rank}
-use native.Mathlib.Decide.{dec_lt}
 use Rattle.pq_base.specs.Name.{is_name_byte}
 use Rattle.pq_base.specs.LPresentation.{AreDistinct}
 use Rattle.pq_base.specs.Answer.{Definition, AreWeights}
 use Rattle.pq_base.specs.Answer.Definition.{image, commutator, power}
 use Rattle.pq_base.specs.Lines.{text_of_lines}
+use Rattle.pq_base.proofs.DistinctNames.{place_unique}
 use Rattle.answer_text.specs.AnswerText.{definition_text, generator_line, generator_lines}
 use Rattle.answer_text.specs.OneText.{AreNames}
 use Rattle.answer_text.proofs.Splits.{first-apart, avoids, avoids-append, avoids-decimal, split-same, decimal-same}
@@ -41,21 +41,12 @@ avoids-definition p names (commutator j i) small a t =
 avoids-definition p names (power j) small a t =
     avoids-append 10 (decimal j) (94 ∷ decimal p) (avoids-decimal 10 j (λ n l e. omega arith) t) (avoids-decimal 10 p (λ n l e. omega arith) (omega arith))
 
-pub place-same : (names : List (List ℕ)) (i j : ℕ) → AreDistinct names → i < length names → j < length names → get_or names i [] ≡ get_or names j [] → i ≡ j
-place-same names i j distinct h g same = elim (dec_lt i j) [
-  | yes less ↦ absurd (distinct i j less g same)
-  | no other ↦ elim (dec_lt j i) [
-    | yes more ↦ absurd (distinct j i more h (sym same))
-    | no neither ↦ omega arith
-  ]
-]
-
 definition_text-same : (p : ℕ) (names : List (List ℕ)) (d e : Definition) → AreDistinct names → IsTold names d → IsTold names e
     → definition_text p names d ≡ definition_text p names e → d ≡ e
 definition_text-same p names (image zero) e distinct s t h = absurd (omega (arith, s.0))
 definition_text-same p names (image (suc i)) (image zero) distinct s t h = absurd (omega (arith, t.0))
 definition_text-same p names (image (suc i)) (image (suc j)) distinct s t h =
-    ap (λ (n : ℕ). image (suc n)) (place-same names i j distinct (omega (arith, s.1)) (omega (arith, t.1)) (ap (λ (x : List ℕ). drop 6 x) h))
+    ap (λ (n : ℕ). image (suc n)) (place_unique names i j distinct (omega (arith, s.1)) (omega (arith, t.1)) (ap (λ (x : List ℕ). drop 6 x) h))
 definition_text-same p names (image (suc i)) (commutator k l) distinct s t h = absurd (first-apart 105 91 _ _ refl h)
 definition_text-same p names (image (suc i)) (power k) distinct s t h = absurd (first-apart 105 97 _ _ refl h)
 definition_text-same p names (commutator j i) (image zero) distinct s t h = absurd (omega (arith, t.0))

@@ -46,7 +46,7 @@ pivots_of-inserted p c k x n bs =
     pivots_of-push (clear_each p a (extended bs)) a
     ∙ ap (λ (l : List ℕ). l ++ c ∷ []) (pivots_of-clear_each p a (extended bs) ∙ pivots_of-extended bs)
 
-length-pivots_of : (bs : List BasisRow) → length (pivots_of bs) ≡ length bs
+pub length-pivots_of : (bs : List BasisRow) → length (pivots_of bs) ≡ length bs
 length-pivots_of [] = refl
 length-pivots_of (b ∷ bs) = ap (λ (n : ℕ). suc n) (length-pivots_of bs)
 

@@ -1,6 +1,7 @@
--- Whether a name of a list stands again behind its place.
-use Rattle.std.proofs.Common.{◌≡◌, ◌≢◌, ℕ, ◌+◌, ◌-◌, ◌<◌, List, [], get_or, length, drop, true, false, nat_eq, ap, sym, ◌∙◌, arith}
-use Rattle.std.proofs.lemmas.Bool.{both_ways}
+-- Distinct names: each has one place, and whether a name stands again behind its place.
+use Rattle.std.proofs.Common.{◌≡◌, ◌≢◌, ℕ, ◌+◌, ◌-◌, ◌<◌, List, [], get_or, length, drop, true, false, nat_eq, inl, inr, ap, sym, ◌∙◌}
+use Rattle.std.proofs.Common.{arith}
+use Rattle.std.proofs.lemmas.Bool.{both_ways, cases_order}
 use Rattle.std.proofs.lemmas.List.{length-drop, get_or-drop, get_or_read}
 use Rattle.std.specs.Cmp.Lexicographic.{pointwise, bytes_decides}
 use Rattle.pq_base.specs.LPresentation.{AreDistinct}
@@ -27,3 +28,14 @@ unrepeated names i k x here after below other same =
     ∙ sym (get_or_read names i x (omega arith) here []) in
     both_ways (pointwise nat_eq (get_or (drop (i + 1) names) (k - (i + 1)) []) x) (other (k - (i + 1)) [] (omega arith))
     ((bytes_decides (get_or (drop (i + 1) names) (k - (i + 1)) []) x).1 there)
+
+-- names that are equal stand at one place
+pub place_unique : (names : List (List ℕ)) (i j : ℕ) → AreDistinct names → i < length names → j < length names
+    → get_or names i [] ≡ get_or names j [] → i ≡ j
+place_unique names i j distinct hi hj same = elim (cases_order i j) [
+  | inl e ↦ e
+  | inr apart ↦ elim apart [
+    | inl lt ↦ absurd (distinct i j lt hj same)
+    | inr gt ↦ absurd (distinct j i gt hi (sym same))
+  ]
+]

@@ -1,13 +1,13 @@
 -- What is made of a basis, rows and matrices in the end is the closure.
-use Rattle.std.proofs.Common.{◌≡◌, ℕ, suc, ◌+◌, ◌<◌, List, [], ◌∷◌, ◌++◌, length, get_or, drop, refl, ap, ap₂, sym, ◌∙◌, subst, arith}
-use Rattle.std.proofs.Common.{length-append}
+use Rattle.std.proofs.Common.{◌≡◌, ℕ, suc, ◌+◌, ◌<◌, List, [], ◌++◌, length, get_or, drop, ap, ap₂, sym, ◌∙◌, subst, arith, length-append}
 use Rattle.std.proofs.lemmas.List.{drop_at, drop_all, length-map}
 use Rattle.pq_base.specs.LPresentation.{AreEndoNumbers}
 use Rattle.fp_rows.specs.Row.{PrimeRow}
 use Rattle.fp_echelon.specs.Span.{AreRows, InSpan, EachInSpan}
-use Rattle.fp_echelon.specs.Reduced.{BasisRow, pivots_of}
+use Rattle.fp_echelon.specs.Reduced.{pivots_of}
 use Rattle.fp_echelon.specs.Basis.{Echelon, IsBasis}
 use Rattle.fp_echelon.specs.Matrix.{PrimeMatrix, times_matrix, entries_of}
+use Rattle.fp_echelon.proofs.InsertionLaws.{length-pivots_of}
 use Rattle.relator_spin.specs.declared.spun.Spun.{Spun}
 use Rattle.relator_spin.specs.Closure.{matrix_at, row_along, spun_rows, AreNames, IsClosed, HasMorePivots}
 use Rattle.relator_spin.specs.Spinning.{Spinning, IsReady, IsNamed, HasGrown, ImagesInSpan}
@@ -15,10 +15,6 @@ use Rattle.relator_spin.proofs.SpanParts.{EachInSpan-at, EachInSpan-by_place, Ea
 use Rattle.relator_spin.proofs.ClosureLaws.{InSpan-row_along, EachInSpan-spun_rows, IsClosed-more}
 use Rattle.relator_spin.proofs.GrownWork.{HasGrown-trans, AreRows-grown, two-grown}
 use Rattle.relator_spin.proofs.WorkLoops.{kept_in_span}
-
-length-pivots_of : (bs : List BasisRow) → length (pivots_of bs) ≡ length bs
-length-pivots_of [] = refl
-length-pivots_of (b ∷ bs) = ap (λ (n : ℕ). suc n) (length-pivots_of bs)
 
 -- the start: no names yet
 pub IsNamed-start : (rows : List PrimeRow) (ms : List PrimeMatrix) (w : Spinning) → w.older ≡ length w.basis.added → w.spun ≡ []

@@ -7,6 +7,7 @@ use Rattle.pq_base.specs.LPresentation.{AreDistinct}
 use Rattle.pq_base.specs.Answer.{Definition}
 use Rattle.pq_base.specs.Answer.Definition.{image, commutator, power}
 use Rattle.pq_base.specs.Lines.{text_of_lines}
+use Rattle.pq_base.proofs.DistinctNames.{place_unique}
 use Rattle.pc_presentation.specs.declared.relation.Relation.{Relation}
 use Rattle.pc_presentation.specs.declared.relation.Relation.TheVariants.{Power, Commutator}
 use Rattle.answer_text.specs.declared.source.Source.{Source}
@@ -20,7 +21,6 @@ use Rattle.answer_text.specs.Sources.{Resolves}
 pub use Rattle.answer_text.specs.ReadSoFar.{source_lines, AreSources}
 use Rattle.answer_text.proofs.Splits.{first-apart, split-same, decimal-same}
 use Rattle.answer_text.proofs.FormLaws.{avoids-form, left_text-same}
-use Rattle.answer_text.proofs.GeneratorsTold.{place-same}
 
 pub source_lines-push : (p k j : ℕ) (ws : List ℕ) (ss : List Source) (w : ℕ) (s : Source) → length ss ≡ length ws → j ≡ suc (k + length ws)
     → source_lines p k (ws ++ w ∷ []) (ss ++ s ∷ []) ≡ source_lines p k ws ss ++ source_line p j w s ∷ []
@@ -101,7 +101,7 @@ resolved-same names (image (suc i)) d distinct limit known r =
     let found = r.2 i known (omega arith) refl in
     let some : 1 ≤ r.0 = found.0 in
     let inside : r.0 ≤ length names = found.1 in
-    let same : r.0 - 1 ≡ i = place-same names (r.0 - 1) i distinct (omega arith) known found.2 in
+    let same : r.0 - 1 ≡ i = place_unique names (r.0 - 1) i distinct (omega arith) known found.2 in
     ap (λ (x : ℕ). image x) (let e : suc i ≡ r.0 = omega arith in e) ∙ sym r.1
 resolved-same names (commutator j i) d distinct limit known r = sym r
 resolved-same names (power j) d distinct limit known r = sym r

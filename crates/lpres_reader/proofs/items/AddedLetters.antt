@@ -1,13 +1,14 @@
 -- A presentation with what a line means behind it is a presentation.
-use Rattle.std.proofs.Common.{◌≡◌, ℕ, ℤ, List, [], ◌∷◌, ◌++◌, map, length}
+use Rattle.std.proofs.Common.{ℕ, ℤ, List, [], ◌∷◌, ◌++◌, map, length}
 use Rattle.std.specs.List.{AllByRecursion}
 use Rattle.std.proofs.lemmas.List.Elements.{recursion_from_All}
 use Rattle.pq_base.specs.SignedWord.{HasLetters}
-use Rattle.pq_base.specs.LPresentation.{LPresentation, IsLPresentation, AreWords, AreEndos}
+use Rattle.pq_base.specs.LPresentation.{LPresentation, IsLPresentation, AreWords}
 use Rattle.lpres_reader.specs.Trees.{fixed_sort, iterated_sort, ItemTree, relators, arrows, relator_meaning, arrow_meaning, GivesAll}
 use Rattle.lpres_reader.specs.Trees.{item_meaning}
 use Rattle.lpres_reader.specs.Trials.{added}
 use Rattle.lpres_reader.proofs.items.GivesEachLaws.{images_all}
+use Rattle.lpres_reader.proofs.items.KeptWords.{AreEndos-push}
 use Rattle.lpres_reader.proofs.trees.MeaningLetters.{relators_letters, arrows_letters}
 
 AreWords-from_recursion : (n : ℕ) (ws : List (List ℤ)) → AllByRecursion (HasLetters n) ws → AreWords n ws
@@ -17,11 +18,6 @@ AreWords-from_recursion n (w ∷ ws) h = (h.0, AreWords-from_recursion n ws h.1)
 AreWords-append : (n : ℕ) (us vs : List (List ℤ)) → AreWords n us → AreWords n vs → AreWords n (us ++ vs)
 AreWords-append n [] vs h i = i
 AreWords-append n (u ∷ us) vs h i = (h.0, AreWords-append n us vs h.1 i)
-
-AreEndos-push : (n : ℕ) (fs : List (List (List ℤ))) (f : List (List ℤ)) → AreEndos n fs → length f ≡ n → AreWords n f
-    → AreEndos n (fs ++ f ∷ [])
-AreEndos-push n [] f h e i = (e, i, tt)
-AreEndos-push n (g ∷ fs) f h e i = (h.0, h.1, AreEndos-push n fs f h.2 e i)
 
 pub presentation_added : (M : LPresentation) (i : ItemTree) (g : GivesAll M.names i) → IsLPresentation M
     → IsLPresentation (added M (item_meaning M.names i g))

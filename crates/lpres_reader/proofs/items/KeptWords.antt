@@ -16,7 +16,7 @@ AreWords-push : (n : ℕ) (ws : List (List ℤ)) (w : List ℤ) → AreWords n w
 AreWords-push n [] w h k = (k, tt)
 AreWords-push n (v ∷ ws) w h k = (h.0, AreWords-push n ws w h.1 k)
 
-AreEndos-push : (n : ℕ) (fs : List (List (List ℤ))) (f : List (List ℤ)) → AreEndos n fs → length f ≡ n → AreWords n f
+pub AreEndos-push : (n : ℕ) (fs : List (List (List ℤ))) (f : List (List ℤ)) → AreEndos n fs → length f ≡ n → AreWords n f
     → AreEndos n (fs ++ f ∷ [])
 AreEndos-push n [] f h e k = (e, k, tt)
 AreEndos-push n (g ∷ fs) f h e k = (h.0, h.1, AreEndos-push n fs f h.2 e k)

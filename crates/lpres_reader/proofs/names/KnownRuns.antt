@@ -2,10 +2,10 @@
 use Rattle.std.proofs.Common.{◌≡◌, ◌<◌, ℕ, Bool, true, false, ◌&&◌, List, [], ◌∷◌, length, get_or, Option, Some, None, is_some, refl, sym}
 use Rattle.std.proofs.Common.{subst}
 use Rattle.lpres_reader.specs.Tokens.{Token, name, number, symbol, ReadsTokens}
-use Rattle.lpres_reader.specs.Front.{Front, line_end, token_first, front_of}
+use Rattle.lpres_reader.specs.Front.{line_end, token_first, front_of}
 use Rattle.lpres_reader.specs.Trees.{place_of, AreKnown}
 use Rattle.lpres_reader.specs.Known.{is_known, TellsKnown}
-use Rattle.lpres_reader.proofs.texts.FrontLemmas.{Follows, follows}
+use Rattle.lpres_reader.proofs.texts.FrontLemmas.{tokens_behind}
 use Rattle.lpres_reader.proofs.texts.LineTokens.{end_only}
 use Rattle.lpres_reader.proofs.names.Places.{place_of-Some, place_of-None}
 
@@ -47,16 +47,12 @@ pub record KnowsOn (names : List (List ℕ)) (line rest : List ℕ) : Type 0 whe
 pub knows_first : (names : List (List ℕ)) (line : List ℕ) → KnowsOn names line line
 knows_first names line = record { on = λ ts d. record { left = ts; spelled = d; to = λ h. h; from = λ h. h } }
 
-rest_is : (rest after : List ℕ) (t : Token) (us : List Token) → front_of rest ≡ token_first t after → ReadsTokens rest us
-    → (vs : List Token) × (us ≡ t ∷ vs) × ReadsTokens after vs
-rest_is rest after t us front d = subst (λ (f : Front). Follows f us) front (follows d)
-
 knows_next : (names : List (List ℕ)) (line rest after : List ℕ) (t : Token) → KnowsOn names line rest → front_of rest ≡ token_first t after
     → is_known names t ≡ true → KnowsOn names line after
 knows_next names line rest after t k front e = record {
   on = λ ts d.
       let a = k.on ts d in
-      let b = rest_is rest after t a.left front a.spelled in
+      let b = tokens_behind rest after t a.left front a.spelled in
       record {
         left = b.0;
         spelled = b.2;
@@ -70,7 +66,7 @@ knows_not : (names : List (List ℕ)) (line rest after : List ℕ) (t : Token) �
     → (ts : List Token) → ReadsTokens line ts → ¬ AreKnown names ts
 knows_not names line rest after t k front e ts d h =
     let a = k.on ts d in
-    let b = rest_is rest after t a.left front a.spelled in
+    let b = tokens_behind rest after t a.left front a.spelled in
     token_unknown names t b.0 e (subst (AreKnown names) b.1 (a.to h))
 
 knows_all : (names : List (List ℕ)) (line rest : List ℕ) → KnowsOn names line rest → front_of rest ≡ line_end → (ts : List Token)

@@ -1,7 +1,7 @@
 -- The place of a name among names that differ is the one at which it stands.
-use Rattle.std.proofs.Common.{◌≡◌, ◌≢◌, ℕ, ◌<◌, List, [], length, get_or, Option, Some, None, refl, sym, ap, ◌∙◌, inl, inr}
-use Rattle.std.proofs.lemmas.Bool.{cases_order}
+use Rattle.std.proofs.Common.{◌≡◌, ◌≢◌, ℕ, ◌<◌, List, [], length, get_or, Option, Some, None, refl, sym, ap, ◌∙◌}
 use Rattle.pq_base.specs.LPresentation.{AreDistinct}
+use Rattle.pq_base.proofs.DistinctNames.{place_unique}
 use Rattle.lpres_reader.specs.Trees.{place_of}
 use Rattle.lpres_reader.proofs.names.KeptNames.{place_found, place_missing}
 
@@ -10,16 +10,6 @@ place_of-Some names n k e = place_found names n k e
 
 pub place_of-None : (names : List (List ℕ)) (n : List ℕ) (k : ℕ) → place_of names n ≡ None → k < length names → get_or names k [] ≢ n
 place_of-None names n k e short = place_missing names n k e short
-
-pub place_unique : (names : List (List ℕ)) (i j : ℕ) → AreDistinct names → i < length names → j < length names
-    → get_or names i [] ≡ get_or names j [] → i ≡ j
-place_unique names i j distinct hi hj same = elim (cases_order i j) [
-  | inl e ↦ e
-  | inr apart ↦ elim apart [
-    | inl lt ↦ absurd (distinct i j lt hj same)
-    | inr gt ↦ absurd (distinct j i gt hi (sym same))
-  ]
-]
 
 pub place_of-known : (names : List (List ℕ)) (n : List ℕ) (k : ℕ) → AreDistinct names → k < length names → get_or names k [] ≡ n
     → place_of names n ≡ Some k

@@ -1,30 +1,26 @@
 -- Reading a line token by token gives what its tokens give.
-use Rattle.std.proofs.Common.{◌≡◌, ◌<◌, ℕ, length, List, ◌∷◌, Result, Ok, Err, refl, ap, subst, ◌∙◌, arith}
+use Rattle.std.proofs.Common.{◌≡◌, ◌<◌, ℕ, length, List, Result, Ok, Err, refl, ap, ◌∙◌, arith}
 use Rattle.lpres_reader.specs.declared.fault.Stop.{Stop}
 use Rattle.lpres_reader.specs.declared.fault.Stop.TheVariants.{Fault, NoMemory}
 use Rattle.lpres_reader.specs.declared.value.Value.{Value}
 use Rattle.lpres_reader.specs.Tokens.{Token, ReadsTokens}
-use Rattle.lpres_reader.specs.Front.{Front, line_end, no_token, token_first, front_of}
+use Rattle.lpres_reader.specs.Front.{line_end, no_token, token_first, front_of}
 use Rattle.lpres_reader.specs.Stops.{Refuses}
 use Rattle.lpres_reader.specs.Values.{Given, followed, value_step, value_end, value_run, RunsOn, StopsAt}
-use Rattle.lpres_reader.proofs.texts.FrontLemmas.{Follows, follows, rest_is_shorter}
+use Rattle.lpres_reader.proofs.texts.FrontLemmas.{rest_is_shorter, tokens_behind}
 use Rattle.lpres_reader.proofs.texts.LineTokens.{end_only, no_tokens}
 
 pub runs_first : (names : List (List ℕ)) (line : List ℕ) (first : Value) → RunsOn names line line first first
 runs_first names line first = record { on = λ ts d. (ts, d, refl); within = omega arith }
 
 -- the rest of a line with a token at its front
-rest_is : (rest after : List ℕ) (t : Token) (us : List Token) → front_of rest ≡ token_first t after → ReadsTokens rest us
-    → (vs : List Token) × (us ≡ t ∷ vs) × ReadsTokens after vs
-rest_is rest after t us front d = subst (λ (f : Front). Follows f us) front (follows d)
-
 pub runs_next : (names : List (List ℕ)) (line rest after : List ℕ) (first last next : Value) (t : Token) → RunsOn names line rest first last
     → front_of rest ≡ token_first t after
     → value_step names last t ≡ Ok next → RunsOn names line after first next
 runs_next names line rest after first last next t r front e = record {
   on = λ ts d.
       let a = r.on ts d in
-      let b = rest_is rest after t a.0 front a.1 in
+      let b = tokens_behind rest after t a.0 front a.1 in
       (b.0, b.2, a.2 ∙ ap (value_run names last) b.1 ∙ ap (λ (x : Result Value Stop). followed x (λ n. value_run names n b.0)) e);
   within = let shorter = rest_is_shorter rest after t front in omega (arith, r.within);
 }
@@ -54,7 +50,7 @@ pub runs_stopped : (names : List (List ℕ)) (line rest after : List ℕ) (first
     → value_step names last t ≡ Err s → (ts : List Token) → ReadsTokens line ts → value_run names first ts ≡ Err s
 runs_stopped names line rest after first last t s r front e ts d =
     let a = r.on ts d in
-    let b = rest_is rest after t a.0 front a.1 in
+    let b = tokens_behind rest after t a.0 front a.1 in
     a.2 ∙ ap (value_run names last) b.1 ∙ ap (λ (x : Result Value Stop). followed x (λ n. value_run names n b.0)) e
 
 pub runs_nowhere : (names : List (List ℕ)) (line rest : List ℕ) (first last : Value) → RunsOn names line rest first last

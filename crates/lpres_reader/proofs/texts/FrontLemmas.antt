@@ -263,3 +263,8 @@ front_is_shorter (b ∷ rest) =
 
 pub rest_is_shorter : (line rest : List ℕ) (t : Token) → front_of line ≡ token_first t rest → length rest < length line
 rest_is_shorter line rest t e = subst (IsShorter (length line)) e (front_is_shorter line)
+
+-- tokens behind a first one are those of the rest of the line
+pub tokens_behind : (rest after : List ℕ) (t : Token) (us : List Token) → front_of rest ≡ token_first t after → ReadsTokens rest us
+    → (vs : List Token) × (us ≡ t ∷ vs) × ReadsTokens after vs
+tokens_behind rest after t us front d = subst (λ (f : Front). Follows f us) front (follows d)

@@ -1,6 +1,6 @@
 -- Words of a consistent answer that obey the relators of a largest quotient: what the generators of the quotient spell under these
 -- words satisfies the relations of the quotient, and makes its images these words.
-use Rattle.std.proofs.Common.{◌≡◌, ℕ, ◌+◌, ◌<◌, ℤ, List, [], ◌∷◌, ◌++◌, length, get_or, map, ap, sym, ◌∙◌, subst, arith, length-append}
+use Rattle.std.proofs.Common.{◌≡◌, ℕ, ◌<◌, ℤ, List, [], ◌∷◌, length, get_or, map, ap, sym, ◌∙◌, subst, arith}
 use Rattle.std.proofs.lemmas.List.{length-map, ext_get_or}
 use Rattle.std.proofs.Math.ListN.{get_or-map}
 use Rattle.pq_base.specs.SignedWord.{sub, HasLetters}
@@ -9,29 +9,15 @@ use Rattle.pq_base.specs.Table.{Table, AllBelow, HasTableClass, value}
 use Rattle.pq_base.specs.Presentation.{IsRelatorOf}
 use Rattle.pq_base.specs.Joined.{Joined, IsConsistent}
 use Rattle.pq_base.specs.Series.{HasClass}
-use Rattle.pq_base.specs.Answer.{Answer, Definition, IsAnswer, spelled, spellings, spell, image_words}
+use Rattle.pq_base.specs.Answer.{Answer, IsAnswer, spell, image_words}
 use Rattle.pq_base.specs.EntryWords.{spelling_words}
 use Rattle.pq_base.specs.Largest.{FactorsOnce, IsLargest}
 use Rattle.pq_base.proofs.words.LetterLaws.{HasLetters-get_or, HasLetters-sub}
 use Rattle.pq_base.proofs.tables.TableGroup.{value-sub, value-letter, value-joined}
 use Rattle.pc_presentation.specs.NormalTable.{normal_table, generator_numbers, NormalWordsAreATable}
 use Rattle.pc_presentation.proofs.normal_tables.LevelWords.{tables_have_the_class}
-use Rattle.cover_quotient.proofs.fitting.FitsStart.{values-below}
+use Rattle.cover_quotient.proofs.fitting.FitsStart.{values-below, length-spelling_words}
 use Rattle.cover_quotient.proofs.stages.ImageNumbers.{own-table}
-
--- there are as many words as definitions
-length-spellings : (p : ℕ) (words : List (List ℤ)) (ds : List Definition) → length (spellings p words ds) ≡ length words + length ds
-length-spellings p words [] = omega arith
-length-spellings p words (d ∷ ds) =
-    let long = length-append words (spelled p words d ∷ []) in
-    let rest = length-spellings p (words ++ spelled p words d ∷ []) ds in
-    omega arith
-
-pub length-spelling_words : (A : Answer) → IsAnswer A → length (spelling_words A) ≡ A.presentation.rank
-length-spelling_words A is =
-    let count = is.definition_count in
-    let all = length-spellings A.presentation.prime [] A.definitions in
-    omega arith
 
 -- what the generators spell under words
 abbrev pub spelled_under : Answer → List (List ℤ) → List (List ℤ)

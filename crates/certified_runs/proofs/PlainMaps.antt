@@ -1,9 +1,8 @@
 -- Elements of a consistent answer make a map of another answer into it, where what its generators spell under their words satisfies
 -- its relations, and makes its images these words.
 use Rattle.std.proofs.Common.{◌≡◌, ℕ, zero, suc, ◌+◌, ◌-◌, ◌<◌, ℤ, List, [], ◌∷◌, ◌++◌, length, get_or, map, refl, ap, ap₂, sym, ◌∙◌, subst}
-use Rattle.std.proofs.Common.{arith, append_assoc}
-use Rattle.std.proofs.lemmas.List.{length-map, append-nil, get_or_default}
-use Rattle.std.proofs.Math.ListN.{get_or-map}
+use Rattle.std.proofs.Common.{arith}
+use Rattle.std.proofs.lemmas.List.{length-map, append-nil}
 use Rattle.pq_base.specs.SignedWord.{inv, copies, comm, sub, HasLetters}
 use Rattle.pq_base.specs.LPresentation.{AreWords}
 use Rattle.pq_base.specs.Presentation.{Presentation, IsRelatorOf, letter, power_word, commutator_word}
@@ -12,22 +11,23 @@ use Rattle.pq_base.specs.Joined.{Joined, IsConsistent}
 use Rattle.pq_base.specs.Answer.{Answer, Definition, IsAnswer, HasDefinition, definition_at, spelled, spell, image_words}
 use Rattle.pq_base.specs.Answer.Definition.{image, commutator, power}
 use Rattle.pq_base.specs.EntryWords.{spelling_words}
-use Rattle.pq_base.proofs.words.WordLaws.{sub-append, sub-inv, sub-copies, sub-comm, append-copies}
+use Rattle.pq_base.proofs.words.WordLaws.{sub-append, sub-inv, sub-copies, sub-comm}
 use Rattle.pq_base.proofs.words.LetterLaws.{HasLetters-get_or, HasLetters-copies, HasLetters-comm, HasLetters-letter, HasLetters-power_word}
 use Rattle.pq_base.proofs.words.LetterLaws.{HasLetters-commutator_word, HasLetters-sub}
-use Rattle.pq_base.proofs.words.JoinedLaws.{joined-sym, joined-trans, joined-from_equal, joined-append, joined-append_right, joined-copies}
-use Rattle.pq_base.proofs.words.JoinedLaws.{joined-comm, joined-from_quotient, append-swap-joined}
+use Rattle.pq_base.proofs.words.JoinedLaws.{joined-sym, joined-trans, joined-from_equal, joined-copies}
+use Rattle.pq_base.proofs.words.JoinedLaws.{joined-comm, joined-from_quotient}
 use Rattle.pq_base.proofs.words.WordGroup.{joined-sub_same}
 use Rattle.pq_base.proofs.words.SpelledLists.{RefersBefore, spelled-at, definition-refers}
 use Rattle.pc_presentation.specs.Rowed.{without_rows}
 use Rattle.pc_presentation.specs.Collection.{State, IsState}
 use Rattle.pc_presentation.specs.Arithmetic.{word_of}
 use Rattle.cover_quotient.proofs.stages.ImageNumbers.{AreWords-image_words}
+use Rattle.cover_quotient.proofs.fitting.FitsStart.{length-spelling_words}
 use Rattle.derivation_log.specs.PlainValues.{identity_of, plain_product, plain_power, HaveOneValue, IsDefinedValue, AreDefinedValues}
 use Rattle.derivation_log.specs.PlainValues.{AreSatisfied, MakeMap}
-use Rattle.derivation_log.proofs.PlainGroups.{AreElements, element-get_or, one-state, one-word, product-word, product-element}
-use Rattle.derivation_log.proofs.PlainGroups.{same-elements, IsElementOf, element, value-known, power-element, power-joined, word-at}
-use Rattle.certified_runs.proofs.LargestMaps.{spelled_under, spelled_under-at, spelled_under-words, length-spelling_words}
+use Rattle.derivation_log.proofs.PlainGroups.{AreElements, element-get_or}
+use Rattle.derivation_log.proofs.PlainGroups.{same-elements, IsElementOf, element, value-known, commutator-known, power-known, word-at}
+use Rattle.certified_runs.proofs.LargestMaps.{spelled_under, spelled_under-at, spelled_under-words}
 
 module _ (A : Answer) (is : IsAnswer A) (consistent : IsConsistent A.presentation) where
   abbrev P : Presentation
@@ -142,19 +142,12 @@ module _ (A : Answer) (is : IsAnswer A) (consistent : IsConsistent A.presentatio
         let u : State = get_or g j (identity_of A) in
         let v : State = get_or g i (identity_of A) in
         let s : State = get_or g k (identity_of A) in
-        let vu : IsState (without_rows A.presentation) A.presentation.rank (plain_product A v u) =
-        product-element A is v u b.state a.state in
         let spelt : Joined A.presentation (W s) (comm (W u) (W v)) =
         joined-trans (joined-sym z.joined)
         (joined-trans (joined-from_equal P (ap (λ (w : List ℤ). sub w F) e ∙ sub-comm (spell B j) (spell B i) F))
         (joined-comm a.joined b.joined)) in
         let product : plain_product A (plain_product A v u) s ≡ plain_product A u v =
-        same-elements A is consistent (plain_product A (plain_product A v u) s) (plain_product A u v)
-        (product-element A is (plain_product A v u) s vu z.state) (product-element A is u v a.state b.state)
-        (joined-trans (product-word A is (plain_product A v u) s vu z.state)
-        (joined-trans (joined-append (product-word A is v u b.state a.state) spelt)
-        (joined-trans (joined-from_equal P (append_assoc (W v) (W u) (comm (W u) (W v))))
-        (joined-trans (joined-sym (append-swap-joined P (W u) (W v))) (joined-sym (product-word A is u v a.state b.state)))))) in
+        commutator-known A is consistent u v s a.state b.state z.state spelt in
         record {
           state = z.state;
           product =
@@ -170,15 +163,13 @@ module _ (A : Answer) (is : IsAnswer A) (consistent : IsConsistent A.presentatio
         let z = at k l in
         let u : State = get_or g j (identity_of A) in
         ap (λ (x : ℕ). plain_power A (get_or g x (identity_of A)) A.presentation.prime) pj
-        ∙ same-elements A is consistent (plain_power A u A.presentation.prime) (get_or g k (identity_of A))
-        (power-element A is u a.state A.presentation.prime) z.state
-        (joined-trans (power-joined A is u a.state A.presentation.prime)
-        (joined-trans (joined-copies A.presentation.prime (joined-sym a.joined))
+        ∙ power-known A is consistent u (get_or g k (identity_of A)) A.presentation.prime a.state z.state
+        (joined-trans (joined-sym z.joined)
         (joined-trans
         (joined-from_equal P
-        (ap (copies (sub (spell B j) F)) prime
-        ∙ sym (ap (λ (w : List ℤ). sub w F) e ∙ sub-copies (spell B j) B.presentation.prime F)))
-        z.joined)))
+        (ap (λ (w : List ℤ). sub w F) e ∙ sub-copies (spell B j) B.presentation.prime F
+        ∙ sym (ap (copies (sub (spell B j) F)) prime)))
+        (joined-copies A.presentation.prime a.joined)))
 
     defined : AreDefinedValues B A f g
     defined = record {

@@ -1,6 +1,6 @@
 -- Overlaps over a collector in a presentation with tails: over a consistent presentation the exponents of both ways agree,
 -- and where they do the row is as wide as the tails are many, and trivial.
-use Rattle.std.proofs.Common.{◌≡◌, ◌↔◌, ℕ, ◌-◌, ◌<◌, Bool, true, false, IsTrue, IsFalse, [], length, refl, ap, sym, ◌∙◌, subst, arith}
+use Rattle.std.proofs.Common.{◌≡◌, ℕ, ◌-◌, ◌<◌, Bool, true, false, IsTrue, IsFalse, [], length, refl, ap, ◌∙◌, subst}
 use Rattle.pq_base.specs.Joined.{Joined, IsConsistent}
 use Rattle.pq_base.specs.Presentation.{word_from}
 use Rattle.pc_presentation.specs.declared.overlap.Overlap.{Overlap}
@@ -51,11 +51,6 @@ end-in_cover end meaning T U o e f same presentation reached =
 pub either_way : (b : Bool) (P : Type 0) → (IsTrue b → P) → (IsFalse b → P) → P
 either_way true P h i = h refl
 either_way false P h i = i refl
-
--- equal exponents of two states that are known
-pub same_exponents : (b : Bool) (l l' r r' : State) → l ≡ l' → r ≡ r' → (IsTrue b ↔ (l.exponents ≡ r.exponents)) → (IsTrue b ↔ (l'.exponents ≡ r'.exponents))
-same_exponents b l l' r r' e f h =
-    subst (λ (s : State). IsTrue b ↔ (s.exponents ≡ r'.exponents)) e (subst (λ (s : State). IsTrue b ↔ (l.exponents ≡ s.exponents)) f h)
 
 pub overlap_rows_are_trivial : OverlapRowsAreTrivial
 overlap_rows_are_trivial Y rowed push meaning o h same = overlap_row-trivial Y rowed rowed.base.prime push meaning o h same

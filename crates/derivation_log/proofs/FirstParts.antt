@@ -1,18 +1,16 @@
 -- The parts of a certificate are judged in order, so the first that fails is one, and there is none where all pass.
-use Rattle.std.proofs.Common.{◌≡◌, suc, List, [], ◌∷◌, ◌++◌, get_or, drop, sym, ◌∙◌, ap, subst, arith}
+use Rattle.std.proofs.Common.{◌≡◌, List, [], ◌∷◌, ◌++◌, get_or, drop, sym, ◌∙◌, ap, subst, arith}
 use Rattle.std.specs.List.{All}
+use Rattle.pc_presentation.proofs.presentations.WordTests.{All-tail}
 use Rattle.derivation_log.specs.CertificateParts.{CertificateKind, full_kind}
 use Rattle.derivation_log.specs.Validity.{Trial, Passes}
 use Rattle.derivation_log.specs.CertificateLaws.{ValidCertificatesHaveNoFirstPart, FirstPartsAreUnique}
 
 module _ {X : Type 0} (P : X → Type 0) where
-  all_but-first : (x : X) (xs : List X) → All P (x ∷ xs) → All P xs
-  all_but-first x xs all k d l = all (suc k) d (omega arith)
-
   -- where all hold, the one behind some does
   holds-behind : (earlier later : List X) (x : X) → All P (earlier ++ x ∷ later) → P x
   holds-behind [] later x all = all 0 x (omega arith)
-  holds-behind (y ∷ earlier) later x all = holds-behind earlier later x (all_but-first y (earlier ++ x ∷ later) all)
+  holds-behind (y ∷ earlier) later x all = holds-behind earlier later x (All-tail P y (earlier ++ x ∷ later) all)
 
   -- the first of a list at which it doesn't hold is one
   first-one : (before earlier later last : List X) (x y : X) → before ++ x ∷ later ≡ earlier ++ y ∷ last → All P before → All P earlier
@@ -23,7 +21,7 @@ module _ {X : Type 0} (P : X → Type 0) where
   first-one (z ∷ before) [] later last x y e all others fails fails_too =
       absurd (fails_too (subst P (ap (λ (zs : List X). get_or zs 0 y) e) (all 0 y (omega arith))))
   first-one (z ∷ before) (w ∷ earlier) later last x y e all others fails fails_too =
-      first-one before earlier later last x y (ap (drop 1) e) (all_but-first z before all) (all_but-first w earlier others) fails fails_too
+      first-one before earlier later last x y (ap (drop 1) e) (All-tail P z before all) (All-tail P w earlier others) fails fails_too
 
 module _ (kind : CertificateKind) where
   pub no_first_part : ValidCertificatesHaveNoFirstPart kind

@@ -1,12 +1,12 @@
 -- Elements of an answer by the plain rule. Their powers are joined to the powers of their words. In a consistent answer they are equal
 -- where their words are joined, each word has one, and a word has a value under elements where its word under theirs is joined to the
 -- value's.
-use Rattle.std.proofs.Common.{◌≡◌, ℕ, zero, suc, ◌<◌, ℤ, List, [], ◌∷◌, ◌++◌, length, get_or, map, refl, ap, ap₂, sym, ◌∙◌, subst, arith}
-use Rattle.pq_base.specs.SignedWord.{copies, sub, HasLetters}
+use Rattle.std.proofs.Common.{◌≡◌, ℕ, zero, suc, ◌<◌, ℤ, List, [], ◌∷◌, ◌++◌, length, get_or, map, refl, ap, ap₂, sym, ◌∙◌, subst, arith, append_assoc}
+use Rattle.pq_base.specs.SignedWord.{copies, comm, sub, HasLetters}
 use Rattle.pq_base.specs.Presentation.{Presentation, IsNormal, normal_word}
 use Rattle.pq_base.specs.Joined.{Joined, IsConsistent}
 use Rattle.pq_base.specs.Answer.{Answer, IsAnswer, AreNormal, image_words}
-use Rattle.pq_base.proofs.words.JoinedLaws.{joined-sym, joined-trans, joined-from_equal, joined-append_right}
+use Rattle.pq_base.proofs.words.JoinedLaws.{joined-sym, joined-trans, joined-from_equal, joined-append, joined-append_right, append-swap-joined}
 use Rattle.pq_base.proofs.words.WordLaws.{append-copies}
 use Rattle.pc_presentation.specs.Rowed.{RowedPresentation, IsRowed, without_rows, flat}
 use Rattle.pc_presentation.specs.Collection.{State, IsState, plain_push, letters, spelled}
@@ -150,6 +150,29 @@ module _ (A : Answer) (is : IsAnswer A) where
         (joined-trans (joined-from_equal P (sym (bare-word u.exponents) ∙ sym (ap (word_of Y) a)))
         (joined-trans c (joined-from_equal P (ap (word_of Y) b ∙ bare-word v.exponents)))))
         ∙ sym b
+
+    -- what is joined to the commutator of two elements is the element behind their product the other way round
+    pub commutator-known : (u v s : State) → IsState (without_rows A.presentation) A.presentation.rank u
+        → IsState (without_rows A.presentation) A.presentation.rank v → IsState (without_rows A.presentation) A.presentation.rank s
+        → Joined A.presentation (word_of (without_rows A.presentation) s)
+        (comm (word_of (without_rows A.presentation) u) (word_of (without_rows A.presentation) v))
+        → plain_product A (plain_product A v u) s ≡ plain_product A u v
+    commutator-known u v s us vs ss spelt =
+        let vu = product-element v u vs us in
+        same-elements (plain_product A (plain_product A v u) s) (plain_product A u v)
+        (product-element (plain_product A v u) s vu ss) (product-element u v us vs)
+        (joined-trans (product-word (plain_product A v u) s vu ss)
+        (joined-trans (joined-append (product-word v u vs us) spelt)
+        (joined-trans (joined-from_equal P (append_assoc (word v) (word u) (comm (word u) (word v))))
+        (joined-trans (joined-sym (append-swap-joined P (word u) (word v))) (joined-sym (product-word u v us vs))))))
+
+    -- and what is joined to a power is the power
+    pub power-known : (u s : State) (n : ℕ) → IsState (without_rows A.presentation) A.presentation.rank u
+        → IsState (without_rows A.presentation) A.presentation.rank s
+        → Joined A.presentation (word_of (without_rows A.presentation) s) (copies (word_of (without_rows A.presentation) u) n)
+        → plain_power A u n ≡ s
+    power-known u s n us ss spelt =
+        same-elements (plain_power A u n) s (power-element u us n) ss (joined-trans (power-joined u us n) (joined-sym spelt))
 
     -- each word has an element
     pub record IsElementOf (w : List ℤ) (s : State) : Type 0 where

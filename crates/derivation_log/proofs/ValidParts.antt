@@ -5,6 +5,7 @@ use Rattle.std.proofs.lemmas.Bool.{cases_eq}
 use Rattle.std.proofs.lemmas.List.{length-append, get_or_append_left, get_or-append-add}
 use Rattle.std.proofs.lemmas.List.Elements.{All-nil, All-cons, All-append}
 use Rattle.pq_base.specs.Canonical.{numbers_from}
+use Rattle.pc_presentation.proofs.presentations.WordTests.{All-head, All-tail}
 use Rattle.derivation_log.specs.declared.source.Run.{Run}
 use Rattle.derivation_log.specs.declared.source.Run.TheVariants.{Iterated, Whole}
 use Rattle.derivation_log.specs.declared.part.Part.{Part}
@@ -26,12 +27,6 @@ module _ {X : Type 0} (P : X → Type 0) where
   all-right xs ys all k d l =
       let long = length-append xs ys in
       subst P (get_or-append-add xs ys k d) (all (length xs + k) d (omega (arith, long, l)))
-
-  all-head : (x : X) (xs : List X) → All P (x ∷ xs) → P x
-  all-head x xs all = all 0 x (omega arith)
-
-  all-tail : (x : X) (xs : List X) → All P (x ∷ xs) → All P xs
-  all-tail x xs all k d l = all (suc k) d (omega arith)
 
   -- a list that is there where a test passes
   all-where : (b : Bool) (xs : List X) → (b ≡ true → All P xs) → All P (cond b xs [])
@@ -111,7 +106,7 @@ module _ (kind : CertificateKind) (c : Certificate) where
           overlaps = behind (suc zero) (last_trial c run part.Short) (omega arith);
           iterated = behind (suc (suc zero)) (last_trial c run part.Short) (omega arith);
           endos = λ e.
-              all-head pass (last_trial c run part.Endo) []
+              All-head pass (last_trial c run part.Endo) []
               (where-all pass (judges_endos c.presentation run) (last_trial c run part.Endo ∷ [])
               (λ k d l. behind (suc (suc (suc k))) d (omega arith)) e);
         }
@@ -140,20 +135,20 @@ module _ (kind : CertificateKind) (c : Certificate) where
   valid-keeps valid =
       let second = all-right pass first_run (run_trials c Whole ++ last_parts) valid in
       let third = all-right pass (run_trials c Whole) last_parts second in
-      let fourth = all-tail pass (last_trial c Whole part.Fixed) behind_fixed third in
+      let fourth = All-tail pass (last_trial c Whole part.Fixed) behind_fixed third in
       record {
         iterated = λ e.
             run-keeps Iterated
             (where-all pass (has_two_runs c.presentation) (run_trials c Iterated)
             (all-left pass first_run (run_trials c Whole ++ last_parts) valid) e);
         whole = run-keeps Whole (all-left pass (run_trials c Whole) last_parts second);
-        fixed = all-head pass (last_trial c Whole part.Fixed) behind_fixed third;
+        fixed = All-head pass (last_trial c Whole part.Fixed) behind_fixed third;
         map = λ e.
-            all-head pass (last_trial c Whole part.Map) []
+            All-head pass (last_trial c Whole part.Map) []
             (where-all pass (has_two_runs c.presentation) (last_trial c Whole part.Map ∷ [])
             (all-left pass (cond (has_two_runs c.presentation) (last_trial c Whole part.Map ∷ []) [])
             (last_trial c Whole part.Answer ∷ []) fourth) e);
-        answer = all-head pass (last_trial c Whole part.Answer) []
+        answer = All-head pass (last_trial c Whole part.Answer) []
             (all-right pass (cond (has_two_runs c.presentation) (last_trial c Whole part.Map ∷ []) [])
             (last_trial c Whole part.Answer ∷ []) fourth);
       }

@@ -1,6 +1,6 @@
 -- What the generators of an answer spell, carried along an endomorphism: the values of left sides, of right sides letter by letter,
 -- and of the words that tails stand for.
-use Rattle.std.proofs.Common.{◌≡◌, ℕ, zero, suc, ◌+◌, ◌-◌, ◌<◌, ◌≤◌, ℤ, pos, List, [], ◌∷◌, ◌++◌, get_or, length, map, take, ap, sym, ◌∙◌, subst, arith, length-append, inl, inr}
+use Rattle.std.proofs.Common.{◌≡◌, ℕ, ◌+◌, ◌-◌, ◌<◌, ◌≤◌, ℤ, pos, List, [], ◌∷◌, ◌++◌, get_or, length, map, take, ap, sym, ◌∙◌, subst, arith, length-append, inl, inr}
 use Rattle.std.proofs.lemmas.List.{get_or_append_left, get_or_push, get_or_default}
 use Rattle.std.proofs.lemmas.Bool.{cases_lt}
 use Rattle.pq_base.specs.SignedWord.{inv, copies, comm, sub, HasLetters}
@@ -13,7 +13,7 @@ use Rattle.pq_base.proofs.words.LetterLaws.{HasLetters-get_or}
 use Rattle.pq_base.proofs.words.SpelledLists.{RefersBefore, spelled-at, definition-refers}
 use Rattle.pc_presentation.specs.declared.syllable.Syllable.{Syllable}
 use Rattle.pc_presentation.specs.Syllable.{letters_of, AreGenerators}
-use Rattle.pc_presentation.proofs.presentations.SyllableLaws.{letters_of-more, sub-number}
+use Rattle.pc_presentation.proofs.presentations.SyllableLaws.{letters_of-more, sub-number, word_at-place}
 use Rattle.pc_presentation.specs.Pcp.{TailedPresentation}
 use Rattle.pc_presentation.specs.Collection.{State}
 use Rattle.pc_presentation.specs.Arithmetic.{word_of}
@@ -23,10 +23,6 @@ use Rattle.p_cover.specs.Covers.{CoverOf, IsCover, cover_presentation}
 use Rattle.p_cover.specs.Images.{ImagesOf, AreLifted}
 use Rattle.endo_lift.specs.Values.{IsValue, AreSpelled, IsUpTo, IsRightSide}
 use Rattle.endo_lift.proofs.ValueLaws.{word_in, StandsFor, same_value, value-commutator, value-power, value-evaluated}
-
-pub word_at-place : (words : List (List ℤ)) (j : ℕ) → 1 ≤ j → word_at words j ≡ get_or words (j - 1) []
-word_at-place words zero l = absurd (omega arith)
-word_at-place words (suc j) l = let place : suc j - 1 ≡ j = omega arith in ap (λ (n : ℕ). get_or words n []) (sym place)
 
 -- the image of a given generator is over the given generators
 pub image-letters : (n : ℕ) (endo : List (List ℤ)) (d : Source) (i k : ℕ) (w u : List ℤ) → AreWords n endo → d ≡ image i

@@ -5,7 +5,7 @@ use Rattle.std.specs.Prelude.{filter}
 use Rattle.std.proofs.lemmas.Bool.{cond-true, cond-false}
 use Rattle.std.proofs.lemmas.List.{map_push}
 use Rattle.std.proofs.lemmas.List.Elements.{filter-append}
-use Rattle.pq_base.specs.Answer.{Answer, Definition as Source, IsAnswer, AreWeights, last_or_zero, class_of}
+use Rattle.pq_base.specs.Answer.{Answer, Definition as Source, IsAnswer, class_of}
 use Rattle.pq_base.specs.Answer.Definition.{image, commutator}
 use Rattle.pq_base.specs.Canonical.{numbers_from, weight_of, is_among, is_qualifying, commutators_of, commutators_up_to, all_commutators, all_powers, all_images, want_order}
 use Rattle.pc_presentation.specs.declared.definition.Definition.{Definition}
@@ -13,6 +13,7 @@ use Rattle.pc_presentation.specs.Definition.{definition_of}
 use Rattle.p_cover.specs.Covers.{all_sources}
 use Rattle.p_cover.specs.Wanted.{is_wanted, wanted}
 use Rattle.pq_base.proofs.NumberLists.{numbers-more, map_numbers-more}
+use Rattle.pq_base.proofs.LastWeights.{no_weights}
 
 module _ (A : Answer) (k : ℕ) (first : Bool) where
   pub wanted-none : (start : List Source) → start ≡ start ++ wanted A k first []
@@ -97,16 +98,8 @@ module _ (A : Answer) where
   abbrev pub parts : ℕ → List Source
   parts k = (((wanted A k true cs ++ wanted A k true ps) ++ wanted A k false cs) ++ wanted A k false ps) ++ wanted A k false images
 
-  no_generators : (ws : List ℕ) → AreWeights 1 ws → last_or_zero ws ≡ 0 → length ws ≡ 0
-  no_generators [] h e = refl
-  no_generators (w ∷ ws) h e = absurd (last-positive 1 w ws h.0 h.2 e)
-    where
-      last-positive : (least w : ℕ) (ws : List ℕ) → 1 ≤ w → AreWeights w ws → last_or_zero (w ∷ ws) ≡ 0 → ⊥
-      last-positive least w [] l h e = omega arith
-      last-positive least w (v ∷ ws) l h e = last-positive w v ws (omega (arith, h.0)) h.2 e
-
   pub no_rank : IsAnswer A → class_of A ≡ 0 → A.presentation.rank ≡ 0
-  no_rank is e = sym is.weight_count ∙ no_generators A.weights is.weights e
+  no_rank is e = sym is.weight_count ∙ no_weights A.weights is.weights e
 
   want_order-suc : (k : ℕ) → want_order A (suc k) ≡ parts (suc k)
   want_order-suc k =

@@ -5,10 +5,11 @@ use Rattle.pq_base.specs.Canonical.{numbers_from, weight_of, rank_up_to}
 use Rattle.pc_presentation.specs.declared.overlap.Overlap.{Overlap}
 use Rattle.pc_presentation.specs.declared.overlap.Overlap.TheVariants.{Triple, Left, Right, Own}
 use Rattle.pc_presentation.proofs.consistent.OverlapKinds.{kind_of, latest_of, middle_of, earliest_of}
+use Rattle.cover_quotient.proofs.canonical_answers.ClassesByWeight.{rank-within}
 use Rattle.tails_by_weight.specs.LightOverlaps.{IsLightOverlap, with_room, light_triples_of, light_triples_with, light_triples, light_pairs_with, light_pairs, light_owns, light_overlaps}
 use Rattle.tails_by_weight.specs.WeightLaws.{EachLightOverlapOnce}
 use Rattle.pq_base.proofs.ListMembers.{In, Apart, In-append_left, In-append_right, In-append_cases, In-map, In-map_cases, In-flat_map, In-flat_map_cases, In-numbers, numbers-range, Contains-from_In, In-from_Contains, Apart-append, Apart-map, Apart-flat_map, Apart-numbers, Apart-places}
-use Rattle.tails_by_weight.proofs.RoomLaws.{with_room-has, with_room-only, rank_up_to-weight, weight-rank_up_to, rank_up_to-within}
+use Rattle.tails_by_weight.proofs.RoomLaws.{with_room-has, with_room-only, rank_up_to-weight, weight-rank_up_to}
 
 -- lists over the numbers with room
 with_room-apart : (A : Answer) (w j : ℕ) → Apart (with_room A w j)
@@ -139,7 +140,7 @@ module _ (A : Answer) (is : IsAnswer A) where
       let r = numbers-range 1 k m.source m.member in
       let low = r.0 in
       let high = r.1 in
-      let within = rank_up_to-within A is (class_of A / 2) in
+      let within = rank-within A is (class_of A / 2) in
       let small = rank_up_to-weight A is (class_of A / 2) m.source low (omega arith) in
       let light : IsLightOverlap A (Own m.source) = record { numbers = (low, omega arith); inside = omega arith } in
       subst (λ (z : Overlap). IsLightOverlap A z) m.made light

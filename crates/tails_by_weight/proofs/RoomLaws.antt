@@ -5,8 +5,8 @@ use Rattle.std.proofs.lemmas.Bool.{cases_lt}
 use Rattle.pq_base.specs.Answer.{Answer, IsAnswer, AreWeights, class_of}
 use Rattle.pq_base.specs.Canonical.{weight_of, count_up_to, rank_up_to}
 use Rattle.pq_base.proofs.ListMembers.{In, In-numbers, numbers-range}
-use Rattle.pq_base.proofs.WeightLaws.{weights-least, weights-past_count, count_up_to-within}
-use Rattle.cover_quotient.proofs.canonical_answers.ClassesByWeight.{weights-counted}
+use Rattle.pq_base.proofs.WeightLaws.{weights-least, weights-past_count}
+use Rattle.cover_quotient.proofs.canonical_answers.ClassesByWeight.{weights-counted, rank-within}
 use Rattle.tails_by_weight.specs.LightOverlaps.{with_room}
 
 -- counted one after the other up to the first weight that is greater
@@ -56,9 +56,6 @@ module _ (A : Answer) (is : IsAnswer A) where
         absurd (omega arith)
   ]
 
-  pub rank_up_to-within : (k : ℕ) → rank_up_to A k ≤ A.presentation.rank
-  rank_up_to-within k = let long = is.weight_count in omega (arith, count_up_to-within k A.weights)
-
   pub weight-positive : (i : ℕ) → 1 ≤ i → i ≤ A.presentation.rank → 1 ≤ weight_of A i
   weight-positive zero a b = absurd (omega arith)
   weight-positive (suc i) a b = let long = is.weight_count in weights-least 1 A.weights is.weights i (omega arith)
@@ -78,7 +75,7 @@ module _ (A : Answer) (is : IsAnswer A) where
       let r = numbers-range 1 (min (pred j) (rank_up_to A k)) i h in
       let low = r.0 in
       let high = r.1 in
-      let within = rank_up_to-within k in
+      let within = rank-within A is k in
       let small = rank_up_to-weight k i low (omega arith) in
       let some = weight-positive i low (omega arith) in
       record { from_one = low; before = omega arith; room = omega arith }

@@ -15,16 +15,12 @@ use Rattle.pc_presentation.proofs.collecting.RunLaws.ReplacementFrom.{swap_from,
 use Rattle.pc_presentation.proofs.collecting.StateProducts.{RelationsAct}
 use Rattle.pc_presentation.proofs.collecting.OverlapsFrom.{OverlapFrom}
 use Rattle.pc_presentation.proofs.collecting.OverlapsFrom.OverlapFrom.{triple_from, left_from, right_from, own_from}
-use Rattle.pc_presentation.proofs.collecting.OverlapsAct.{one_more}
+use Rattle.pc_presentation.proofs.collecting.OverlapsAct.{one_more, no_relations}
 use Rattle.pc_presentation.proofs.consistent.StateRelators.{normal_words-unique}
 use Rattle.pc_presentation.proofs.consistent.Reached.{words-reach}
 use Rattle.tails_by_weight.specs.WeightedRows.{ObeysWeightsTo, IsInsideTo}
 use Rattle.tails_by_weight.specs.WeightLaws.{OverlapsByWeightMakeConsistent}
 use Rattle.tails_by_weight.proofs.weighted.FirstOverlaps.{PowerAgrees, swap-place, first_triple, first_left, first_right, first_own}
-
-no_relations : (Y : RowedPresentation) (k : ℕ) → k + 0 ≡ Y.base.rank → RelationsAct Y 0 k
-no_relations Y k size s v _ _ _ (swap_from j i a b f g m q) = absurd (omega arith)
-no_relations Y k size s v _ _ _ (power_from i a f m) = absurd (omega arith)
 
 module _ (Y : RowedPresentation) (rowed : IsRowed Y) (big : 1 < Y.base.prime) (n k : ℕ) (acts : RelationsAct Y n (suc k)) where
   -- both sides of a relation of the generators from place k on, behind the word a

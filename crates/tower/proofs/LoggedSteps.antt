@@ -2,7 +2,7 @@
 use Rattle.std.proofs.Common.{◌≡◌, ℕ, Bool, List, sym, subst}
 use Rattle.pq_base.specs.LPresentation.{LPresentation}
 use Rattle.pq_base.specs.Answer.{Answer}
-use Rattle.fp_echelon.specs.Basis.{Echelon, IsBasis}
+use Rattle.fp_echelon.specs.Basis.{Echelon}
 use Rattle.pc_presentation.specs.Rowed.{RowedPresentation}
 use Rattle.pc_presentation.specs.Collection.{State}
 use Rattle.pc_presentation.specs.Tailed.{rowed_presentation}
@@ -10,25 +10,15 @@ use Rattle.p_cover.specs.Covers.{CoverOf, cover_presentation}
 use Rattle.class_step.specs.declared.step.Step.{Step}
 use Rattle.class_step.specs.Steps.{IsStep}
 use Rattle.derivation_log.specs.declared.source.RowSource.{RowSource}
-use Rattle.derivation_log.specs.HeldSteps.{HeldStep, told_step, held_basis, KeepsOneMore}
+use Rattle.derivation_log.specs.HeldSteps.{HeldStep, told_step, KeepsOneMore}
 use Rattle.derivation_log.specs.HeldRuns.{IsHeldStep}
+use Rattle.derivation_log.proofs.HeldLines.{held-basis}
 use Rattle.tower.specs.declared.relator.Relator.{Relator}
 use Rattle.tower.specs.StepKinds.{step_cover, step_tests, IsTested}
 use Rattle.tower.specs.StepRows.{StepRows, AreOver, HaveTaken, step_sources}
 use Rattle.tower.specs.LoggedSteps.{IsLogged}
 use Rattle.tower.proofs.StepKinds.{step_cover-answer}
 use Rattle.tower.proofs.TakenSources.{taken-tested}
-
--- the basis, whatever room it has
-held-basis : (B : Echelon) (sources : List RowSource) → IsBasis B → IsBasis (held_basis (told_step sources B))
-held-basis B sources is = record {
-  prime = is.prime;
-  added = is.added;
-  count = is.count;
-  reduced = is.reduced;
-  sums = is.sums;
-  spanned = is.spanned;
-}
 
 module _ (full : Bool) (L : LPresentation) (meaning : RowedPresentation → State → ℕ → State) (A : Answer) (C : CoverOf)
     (kind : C ≡ step_cover full A) (rs : List Relator) (R : StepRows) (over : AreOver C R)

@@ -49,11 +49,6 @@ end_of_way end T U o e f same presentation reached =
     ap (λ (d : Element). d.state) same
     ∙ subst (λ (V : TailedPresentation). f.state ≡ end (rowed_presentation V) (plain_push (rowed_presentation V)) o) presentation reached
 
-pub alike_ends : (b : Bool) (l m r s : State) → l ≡ m → r ≡ s → (IsTrue b ↔ (l.exponents ≡ r.exponents))
-    → (IsTrue b ↔ (m.exponents ≡ s.exponents))
-alike_ends b l m r s e f h =
-    subst (λ (t : State). IsTrue b ↔ (t.exponents ≡ s.exponents)) e (subst (λ (t : State). IsTrue b ↔ (l.exponents ≡ t.exponents)) f h)
-
 module _ (C : CoverOf) where
   abbrev push : State → ℕ → State
   push = plain_push (rowed_presentation (cover_presentation C))

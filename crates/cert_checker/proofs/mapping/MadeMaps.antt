@@ -1,14 +1,13 @@
 -- Elements of a consistent answer make a map of another answer into it exactly where their words satisfy its relations and carry its
 -- images to their words.
 use Rattle.std.proofs.Common.{◌≡◌, ◌<◌, ◌+◌, ◌-◌, ℕ, zero, suc, ℤ, List, [], get_or, length, map, refl, ap, ap₂, sym, ◌∙◌, subst, arith}
-use Rattle.std.proofs.Common.{append_assoc}
 use Rattle.std.proofs.lemmas.List.{ext_get_or}
 use Rattle.pq_base.specs.SignedWord.{copies, comm, sub, HasLetters}
 use Rattle.pq_base.specs.Presentation.{Presentation, letter, power_word, commutator_word}
 use Rattle.pq_base.specs.Joined.{Joined, IsConsistent}
 use Rattle.pq_base.specs.Answer.{Answer, Definition, IsAnswer, HasDefinition, definition_at, image_words}
 use Rattle.pq_base.specs.Answer.Definition.{image, commutator, power}
-use Rattle.pq_base.proofs.words.JoinedLaws.{joined-sym, joined-trans, joined-from_equal, joined-append, append-swap-joined}
+use Rattle.pq_base.proofs.words.JoinedLaws.{joined-sym, joined-trans, joined-from_equal}
 use Rattle.pq_base.proofs.words.LetterLaws.{HasLetters-copies, HasLetters-comm, HasLetters-letter, HasLetters-power_word}
 use Rattle.pq_base.proofs.words.LetterLaws.{HasLetters-commutator_word}
 use Rattle.cover_quotient.proofs.fitting.TailValues.{image_word-letters}
@@ -21,8 +20,8 @@ use Rattle.derivation_log.specs.PlainValues.{identity_of, plain_product, plain_p
 use Rattle.derivation_log.specs.PlainValues.{AreDefinedValues, MakeMap}
 use Rattle.derivation_log.proofs.PlainValues.{value-joined}
 use Rattle.derivation_log.proofs.PlainGroups.{AreElements, element-get_or, rowed-here, meaning-here, arithmetic-here, one-state, unflat}
-use Rattle.derivation_log.proofs.PlainGroups.{product-word, product-element, same-elements, value-known, inverse_list, images-inverted}
-use Rattle.derivation_log.proofs.PlainGroups.{word-at, power-element, power-joined}
+use Rattle.derivation_log.proofs.PlainGroups.{product-element, same-elements, value-known, inverse_list, images-inverted}
+use Rattle.derivation_log.proofs.PlainGroups.{word-at, commutator-known, power-known}
 use Rattle.cert_checker.specs.MapWords.{definition_word, AreDefinedWords, MakeMapOfWords}
 
 module _ (B A : Answer) (of : IsAnswer B) (is : IsAnswer A) where
@@ -118,16 +117,10 @@ module _ (B A : Answer) (of : IsAnswer B) (is : IsAnswer A) where
         let s : State = get_or g k (identity_of A) in
         let us = here j lj in
         let vs = here i li in
-        let vu = product-element A is v u vs us in
         let spelt : Joined A.presentation (W s) (comm (W u) (W v)) =
         joined-trans c (joined-from_equal P (ap₂ comm (word-here j lj) (word-here i li))) in
         let product : plain_product A (plain_product A v u) s ≡ plain_product A u v =
-        same-elements A is consistent (plain_product A (plain_product A v u) s) (plain_product A u v)
-        (product-element A is (plain_product A v u) s vu (here k l)) (product-element A is u v us vs)
-        (joined-trans (product-word A is (plain_product A v u) s vu (here k l))
-        (joined-trans (joined-append (product-word A is v u vs us) spelt)
-        (joined-trans (joined-from_equal P (append_assoc (W v) (W u) (comm (W u) (W v))))
-        (joined-trans (joined-sym (append-swap-joined P (W u) (W v))) (joined-sym (product-word A is u v us vs)))))) in
+        commutator-known A is consistent u v s us vs (here k l) spelt in
         record {
           state = here k l;
           product =
@@ -142,10 +135,8 @@ module _ (B A : Answer) (of : IsAnswer B) (is : IsAnswer A) where
         let lj : j < B.presentation.rank = omega (arith, before, l) in
         let u : State = get_or g j (identity_of A) in
         ap (λ (x : ℕ). plain_power A (get_or g x (identity_of A)) A.presentation.prime) pj
-        ∙ same-elements A is consistent (plain_power A u A.presentation.prime) (get_or g k (identity_of A))
-        (power-element A is u (here j lj) A.presentation.prime) (here k l)
-        (joined-trans (power-joined A is u (here j lj) A.presentation.prime)
-        (joined-trans (joined-from_equal P (ap (λ (w : List ℤ). copies w A.presentation.prime) (sym (word-here j lj)))) (joined-sym c)))
+        ∙ power-known A is consistent u (get_or g k (identity_of A)) A.presentation.prime (here j lj) (here k l)
+        (joined-trans c (joined-from_equal P (ap (λ (w : List ℤ). copies w A.presentation.prime) (word-here j lj))))
 
     module _ (defined : AreDefinedWords (without_rows A.presentation) B F G B.presentation.rank) where
       values : AreDefinedValues B A f g

@@ -1,5 +1,5 @@
 -- Elements that stand for the words of definitions.
-use Rattle.std.proofs.Common.{◌≡◌, ◌≤◌, ◌<◌, ◌-◌, ℕ, zero, suc, ℤ, List, [], ◌++◌, get_or, length, replicate, ap, ap₂, sym, ◌∙◌, subst}
+use Rattle.std.proofs.Common.{◌≡◌, ◌≤◌, ◌<◌, ◌-◌, ℕ, ℤ, List, [], ◌++◌, get_or, length, replicate, ap, ap₂, sym, ◌∙◌, subst}
 use Rattle.std.proofs.Common.{arith}
 use Rattle.std.specs.Prelude.{All}
 use Rattle.std.proofs.lemmas.List.{length-map, get_or_default}
@@ -19,12 +19,8 @@ use Rattle.pc_presentation.specs.Tailed.{Element, rowed_presentation, IsElement,
 use Rattle.pc_presentation.specs.ImageElements.{states_of}
 use Rattle.pc_presentation.proofs.quotients.CollectorArithmetic.{plain_rule_is_a_meaning}
 use Rattle.pc_presentation.proofs.quotients.TailedArithmetic.{cleared-identity, cleared-is_element, identity_at-word}
+use Rattle.pc_presentation.proofs.presentations.SyllableLaws.{word_at-place}
 use Rattle.cert_checker.specs.MapWords.{words_of, StandsFor, definition_word, RefersWithin}
-
--- entry i, counted from 1
-pub word_at-is : (ws : List (List ℤ)) (i : ℕ) → 1 ≤ i → word_at ws i ≡ get_or ws (i - 1) []
-word_at-is ws zero l = absurd (omega arith)
-word_at-is ws (suc i) l = let e : i ≡ suc i - 1 = omega arith in ap (λ (k : ℕ). get_or ws k []) e
 
 module _ (T : TailedPresentation) where
   abbrev W : Element → List ℤ
@@ -50,7 +46,7 @@ module _ (T : TailedPresentation) where
   -- entry i, counted from 1, as it was read
   pub read-at : (es : List Element) (i : ℕ) (e : Element) → 1 ≤ i → i ≤ length es → e ≡ get_or es (i - 1) e
       → word_at (words_of T es) i ≡ word_of (rowed_presentation T) e.state
-  read-at es i e l m q = word_at-is (words_of T es) i l ∙ words_of-read es (i - 1) e (omega arith) q
+  read-at es i e l m q = word_at-place (words_of T es) i l ∙ words_of-read es (i - 1) e (omega arith) q
 
   read-element : (es : List Element) (i : ℕ) (e : Element) → All (IsElement T) es → i < length es → e ≡ get_or es i e → IsElement T e
   read-element es i e are l q = subst (IsElement T) (sym q) (are i e l)

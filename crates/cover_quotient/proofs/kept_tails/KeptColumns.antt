@@ -1,14 +1,15 @@
 -- The kept columns are the columns without a pivot, in rising order, and with the pivots they are all columns.
-use Rattle.std.proofs.Common.{◌≡◌, ◌⊎◌, ℕ, zero, suc, ◌+◌, ◌-◌, ◌<◌, ◌≤◌, ◌||◌, Bool, true, false, not, cond, eqb, List, [], ◌∷◌, length, get_or, filter, inl, inr, ⊎_elim, refl, ap, sym, ◌∙◌, subst, arith, eq-eqb}
+use Rattle.std.proofs.Common.{◌≡◌, ◌⊎◌, ℕ, suc, ◌+◌, ◌-◌, ◌<◌, ◌≤◌, ◌||◌, Bool, true, false, not, eqb, List, [], ◌∷◌, length, get_or, inl, inr, ⊎_elim, refl, ap, sym, arith, eq-eqb}
 use borrow.Author.Tests.{eqb-true}
 use Rattle.std.specs.List.{All, Contains}
 use Rattle.std.specs.List.Sorted.{IsStrictlyIncreasing}
-use Rattle.std.proofs.lemmas.Bool.{cond_both, false_from_ne_true}
+use Rattle.std.proofs.lemmas.Bool.{false_from_ne_true}
 use Rattle.std.proofs.lemmas.List.Elements.{All-filter, filter_passes}
 use Rattle.std.proofs.lemmas.List.Kept.{IsStrictlyIncreasing-filter}
 use Rattle.pq_base.specs.Canonical.{numbers_from}
 use Rattle.fp_echelon.specs.Reduced.{BasisRow, pivots_of, IsPivot}
 use Rattle.pq_base.proofs.NumberLists.{length-numbers_from, get_or-numbers_from, Contains-numbers_from}
+use Rattle.p_cover.proofs.ListPairs.{Contains-filter}
 use Rattle.cover_quotient.specs.Kept.{is_listed, kept_columns}
 
 -- a number between the bounds
@@ -21,19 +22,6 @@ numbers-between a n m h k d within =
     let long = length-numbers_from a n in
     let entry = get_or-numbers_from a n k d (omega arith) in
     record { first = omega arith; last = omega arith }
-
--- an element that passes stays
-contains-cons : (y : ℕ) (xs : List ℕ) (c : ℕ) → Contains xs c → Contains (y ∷ xs) c
-contains-cons y xs c h = let within = h.1 in (suc h.0, (let l : suc h.0 < length (y ∷ xs) = omega arith in l), h.2)
-
-pub contains-filter : (test : ℕ → Bool) (xs : List ℕ) (c : ℕ) → Contains xs c → test c ≡ true → Contains (filter test xs) c
-contains-filter test [] c h t = let within = h.1 in absurd (omega arith)
-contains-filter test (x ∷ xs) c (zero, within, same) t =
-    subst (λ (l : List ℕ). Contains l c) (sym (ap (λ (b : Bool). cond b (x ∷ filter test xs) (filter test xs)) (ap test same ∙ t)))
-    (0, (let l : 0 < length (x ∷ filter test xs) = omega arith in l), same)
-contains-filter test (x ∷ xs) c (suc k, within, same) t =
-    let rest : Contains (filter test xs) c = contains-filter test xs c (k, (let l : k < length xs = omega arith in l), same) t in
-    cond_both (test x) (x ∷ filter test xs) (filter test xs) (λ (l : List ℕ). Contains l c) (λ e. contains-cons x (filter test xs) c rest) (λ e. rest)
 
 -- pivots that are listed
 either_true : (a b : Bool) → a || b ≡ true → (a ≡ true) ⊎ (b ≡ true)
@@ -89,7 +77,7 @@ module _ (width : ℕ) (bs : List BasisRow) where
       let first = h.first in
       let last = h.last in
       let not_listed : is_listed c (pivots_of bs) ≡ false = false_from_ne_true (is_listed c (pivots_of bs)) (λ e. h.no_pivot (listed_pivot c bs e)) in
-      contains-filter kept (numbers_from 1 width) c (Contains-numbers_from 1 width c first (omega arith)) (ap not not_listed)
+      Contains-filter kept (numbers_from 1 width) c (Contains-numbers_from 1 width c first (omega arith)) (ap not not_listed)
 
   numbers_rise : IsStrictlyIncreasing (numbers_from 1 width)
   numbers_rise k within =

@@ -1,16 +1,17 @@
 -- In the answer that kept tails make of a cover the old generators spell what they did, and a new one what its relation or
 -- image fails by: the relation's side is empty.
-use Rattle.std.proofs.Common.{◌≡◌, ℕ, zero, suc, ◌<◌, ◌≤◌, ℤ, List, [], ◌∷◌, ◌++◌, get_or, length, map, refl, ap, ap₂, sym, ◌∙◌, arith}
+use Rattle.std.proofs.Common.{◌≡◌, ℕ, zero, suc, ◌<◌, ℤ, List, [], ◌∷◌, ◌++◌, get_or, length, map, refl, ap, ap₂, sym, ◌∙◌, arith}
 use Rattle.std.specs.List.{All}
 use Rattle.std.proofs.lemmas.List.Elements.{All-head, All-tail}
 use Rattle.std.proofs.Math.ListN.{get_or-map as entry-map}
 use Rattle.pq_base.specs.SignedWord.{inv, sub}
 use Rattle.pq_base.specs.Table.{Table, value}
 use Rattle.pq_base.specs.Presentation.{normal_word, word_from}
-use Rattle.pq_base.specs.Answer.{Answer, Definition, IsAnswer, AreWeights, last_or_zero, class_of, image_words, spelled, spellings}
+use Rattle.pq_base.specs.Answer.{Answer, Definition, IsAnswer, class_of, image_words, spelled, spellings}
 use Rattle.pq_base.specs.Answer.Definition.{image, commutator, power}
 use Rattle.pq_base.proofs.words.WordLaws.{normal_word-append}
 use Rattle.pc_presentation.specs.Rowed.{followed_by}
+use Rattle.pc_presentation.proofs.rows.FlatLaws.{length-followed_by, get_or-followed_by}
 use Rattle.p_cover.specs.RowedAnswer.{RowedAnswer}
 use Rattle.pq_base.specs.EntryWords.{IsSourceOf, spelling_words, entry_word}
 use Rattle.cover_quotient.specs.Fits.{spelled_elements, tail_element}
@@ -80,21 +81,9 @@ module _ (T : Table) (f : List ℕ) (A : Answer) (is : IsAnswer A) where
       ∙ ap (λ (l : List ℕ). map (value T f) S ++ l) (defined-values ds s h)
 
 -- the image of a given generator
-followed-entry : (es xs : List (List ℕ)) (i : ℕ) → length es ≡ length xs → get_or (followed_by es xs) i [] ≡ get_or es i [] ++ get_or xs i []
-followed-entry [] [] i e = refl
-followed-entry [] (x ∷ xs) i e = absurd (omega arith)
-followed-entry (d ∷ es) [] i e = absurd (omega arith)
-followed-entry (d ∷ es) (x ∷ xs) zero e = refl
-followed-entry (d ∷ es) (x ∷ xs) (suc i) e = followed-entry es xs i (omega arith)
-
-length-followed : (es xs : List (List ℕ)) → length es ≡ length xs → length (followed_by es xs) ≡ length es
-length-followed [] xs e = refl
-length-followed (d ∷ es) [] e = absurd (omega arith)
-length-followed (d ∷ es) (x ∷ xs) e = ap suc (length-followed es xs (omega arith))
-
 module _ (Y : RowedAnswer) (is : IsAnswer Y.answer) (rows : length Y.answer.images ≡ length Y.image_rows) (ds : List Definition) where
   pub next-image_count : length (next_answer Y ds).images ≡ length Y.answer.images
-  next-image_count = length-followed Y.answer.images Y.image_rows rows
+  next-image_count = length-followed_by Y.answer.images Y.image_rows rows
 
   pub next-image : (i : ℕ) → i < length Y.answer.images
       → get_or (image_words (next_answer Y ds)) i []
@@ -103,7 +92,7 @@ module _ (Y : RowedAnswer) (is : IsAnswer Y.answer) (rows : length Y.answer.imag
       let e : List ℕ = get_or Y.answer.images i [] in
       let x : List ℕ = get_or Y.image_rows i [] in
       entry-map normal_word (followed_by Y.answer.images Y.image_rows) i []
-      ∙ ap normal_word (followed-entry Y.answer.images Y.image_rows i rows)
+      ∙ ap normal_word (get_or-followed_by Y.answer.images Y.image_rows i rows)
       ∙ normal_word-append e x
       ∙ ap (λ (k : ℕ). normal_word e ++ word_from k x) (image_length Y.answer is i l)
       ∙ ap (λ (w : List ℤ). w ++ word_from Y.answer.presentation.rank x) (sym (entry-map normal_word Y.answer.images i []))

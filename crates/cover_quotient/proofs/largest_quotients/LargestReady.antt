@@ -23,10 +23,11 @@ use Rattle.pq_base.proofs.tables.TableGroup.{value-copies, value-comm, value-joi
 use Rattle.pq_base.proofs.tables.TableSeries.{table_level-commutator, table_level-power}
 use Rattle.pq_base.proofs.tables.LevelQuotients.{LevelQuotient, level-quotient_stands}
 use Rattle.pq_base.proofs.KilledWords.{killed-level}
+use Rattle.fp_rows.proofs.BelowLaws.{AllBelow-append}
 use Rattle.pc_presentation.specs.NormalTable.{normal_table, generator_numbers, NormalWordsAreATable}
 use Rattle.pc_presentation.specs.RowedLaws.{projection}
 use Rattle.pc_presentation.specs.CutLaws.{cut_word}
-use Rattle.pc_presentation.proofs.collecting.PlainRuns.{AllBelow-append, AllBelow-replicate}
+use Rattle.pc_presentation.proofs.collecting.PlainRuns.{AllBelow-replicate}
 use Rattle.pc_presentation.proofs.rows.Projections.{get_or-projection_past}
 use Rattle.pc_presentation.proofs.cuts.CutSides.{images-cut, joined-cut}
 use Rattle.pc_presentation.proofs.normal_tables.LevelWords.{tables_have_the_class}

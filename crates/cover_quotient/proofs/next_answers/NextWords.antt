@@ -1,6 +1,6 @@
 -- The relations and images of the next answer: each is that of the answer, followed by its row. So what has the row of zeros
 -- stays the same word, and what was empty and has a unit row is the letter of its tail.
-use Rattle.std.proofs.Common.{◌≡◌, ℕ, zero, suc, ◌+◌, ◌-◌, ◌<◌, Bool, cond, ne_eqb, ℤ, List, [], ◌∷◌, ◌++◌, get_or, length, map, refl, ap, ap₂, sym, ◌∙◌, arith, length-append}
+use Rattle.std.proofs.Common.{◌≡◌, ℕ, zero, suc, ◌+◌, ◌-◌, ◌<◌, Bool, cond, ne_eqb, ℤ, List, [], ◌∷◌, ◌++◌, get_or, length, map, ap, ap₂, sym, ◌∙◌, arith, length-append}
 use Rattle.std.proofs.lemmas.List.{append-nil}
 use Rattle.std.proofs.Math.ListN.{get_or-map}
 use Rattle.pq_base.specs.Elementary.{zeros}
@@ -8,9 +8,9 @@ use Rattle.pq_base.specs.Presentation.{IsNormal, letter, word_from, normal_word}
 use Rattle.pq_base.specs.Answer.{AreNormal, image_words}
 use Rattle.pq_base.proofs.NormalLists.{normal-entry}
 use Rattle.pq_base.proofs.words.WordLaws.{word_from-zeros, normal_word-append}
+use Rattle.fp_rows.proofs.BelowLaws.{AllBelow-append}
 use Rattle.pc_presentation.specs.Rowed.{followed_by}
 use Rattle.pc_presentation.specs.Pcp.{unit_row}
-use Rattle.pc_presentation.proofs.collecting.PlainRuns.{AllBelow-append}
 use Rattle.pc_presentation.proofs.rows.FlatLaws.{get_or-followed_by}
 use Rattle.p_cover.specs.RowedAnswer.{RowedAnswer, IsRowedAnswer}
 use Rattle.cover_quotient.proofs.carried_rows.UnitRows.{unit_row-zero}

@@ -1,17 +1,17 @@
 -- The rows of the qualifying relations are rows, and hold the row of each relation that qualifies.
-use Rattle.std.proofs.Common.{◌≡◌, ℕ, zero, suc, ◌+◌, ◌<◌, ◌≤◌, ◌&&◌, Bool, true, cond, pred, List, [], ◌∷◌, length, map, filter, inl, inr, refl, ap, ap₂, sym, ◌∙◌, subst, arith, eq-eqb}
+use Rattle.std.proofs.Common.{◌≡◌, ℕ, zero, suc, ◌+◌, ◌<◌, ◌≤◌, ◌&&◌, Bool, true, pred, List, [], ◌∷◌, length, map, filter, refl, ap, ap₂, sym, ◌∙◌, subst, arith, eq-eqb}
 use Rattle.std.specs.List.{All, Contains}
-use Rattle.std.proofs.lemmas.Bool.{cond_both, cases_lt}
 use Rattle.std.proofs.lemmas.List.{length-map}
-use Rattle.std.proofs.lemmas.List.Elements.{All-nil, All-cons, All-append, All-map, All-filter, Contains-append_left, Contains-append_right}
+use Rattle.std.proofs.lemmas.List.Elements.{All-nil, All-append, All-map, All-filter, Contains-append_left, Contains-append_right}
 use Rattle.std.proofs.Math.ListN.{get_or-map}
 use Rattle.pq_base.specs.Answer.{Definition as Source, weight_at}
 use Rattle.pq_base.specs.Answer.Definition.{commutator, power}
 use Rattle.pq_base.specs.Canonical.{numbers_from, is_qualifying, commutators_of, commutators_up_to, all_commutators, all_powers}
-use Rattle.pq_base.proofs.NumberLists.{Contains-numbers_from}
+use Rattle.pq_base.proofs.NumberLists.{Contains-numbers_from, All-numbers}
 use Rattle.fp_rows.specs.Rows.{IsRow}
 use Rattle.fp_echelon.specs.Span.{AreRows, InSpan}
 use Rattle.p_cover.specs.RowedAnswer.{RowedAnswer, IsRowedAnswer, row_at}
+use Rattle.p_cover.proofs.ListPairs.{Contains-filter}
 use Rattle.cover_quotient.specs.Levels.{qualifying_relations, qualifying_rows}
 use Rattle.cover_quotient.proofs.carried_rows.CarriedRows.{row_from_normal}
 use Rattle.cover_quotient.proofs.spans.OverlapRows.{AreRows-from_all, InSpan-contained}
@@ -23,15 +23,6 @@ module _ {X : Type 0} where
 
   contains-cons : (y : X) (xs : List X) (x : X) → Contains xs x → Contains (y ∷ xs) x
   contains-cons y xs x h = let within = h.1 in (suc h.0, (let l : suc h.0 < length (y ∷ xs) = omega arith in l), h.2)
-
-  contains-filter : (test : X → Bool) (xs : List X) (x : X) → Contains xs x → test x ≡ true → Contains (filter test xs) x
-  contains-filter test [] x h t = let within = h.1 in absurd (omega arith)
-  contains-filter test (y ∷ xs) x (zero, within, same) t =
-      subst (λ (l : List X). Contains l x) (sym (ap (λ (b : Bool). cond b (y ∷ filter test xs) (filter test xs)) (ap test same ∙ t)))
-      (0, (let l : 0 < length (y ∷ filter test xs) = omega arith in l), same)
-  contains-filter test (y ∷ xs) x (suc k, within, same) t =
-      let rest : Contains (filter test xs) x = contains-filter test xs x (k, (let l : k < length xs = omega arith in l), same) t in
-      cond_both (test y) (y ∷ filter test xs) (filter test xs) (λ (l : List X). Contains l x) (λ e. contains-cons y (filter test xs) x rest) (λ e. rest)
 
   contains-map : {Y : Type 0} (f : X → Y) (xs : List X) (x : X) → Contains xs x → Contains (map f xs) (f x)
   contains-map f xs x h =
@@ -46,13 +37,6 @@ contains-commutators (x ∷ js) j d (zero, within, same) c =
 contains-commutators (x ∷ js) j d (suc k, within, same) c =
     Contains-append_right (commutators_of x) (commutators_up_to js) d
     (contains-commutators js j d (k, (let l : k < length js = omega arith in l), same) c)
-
--- numbers that are all alike
-all-numbers : (P : ℕ → Type 0) (a n : ℕ) → ((i : ℕ) → a ≤ i → i < a + n → P i) → All P (numbers_from a n)
-all-numbers P a zero h = All-nil P
-all-numbers P a (suc n) h =
-    All-cons P a (numbers_from (suc a) n) (h a (omega arith) (omega arith))
-    (all-numbers P (suc a) n (λ i b l. h i (omega arith) (omega arith)))
 
 all-commutator_lists : (P : Source → Type 0) (a n : ℕ) → ((j : ℕ) → a ≤ j → j < a + n → All P (commutators_of j))
     → All P (commutators_up_to (numbers_from a n))
@@ -85,9 +69,9 @@ module _ (Y : RowedAnswer) (is : IsRowedAnswer Y) (c : ℕ) where
       let commutators : All HasRow (all_commutators Y.answer.presentation.rank) =
       all-commutator_lists HasRow 1 n
       (λ j b l. All-map HasRow (λ (i : ℕ). commutator j i) (numbers_from 1 (pred j))
-      (all-numbers (λ (i : ℕ). HasRow (commutator j i)) 1 (pred j) (λ i a m. commutator-row j i a (omega arith) (omega arith)))) in
+      (All-numbers (λ (i : ℕ). HasRow (commutator j i)) 1 (pred j) (λ i a m. commutator-row j i a (omega arith) (omega arith)))) in
       let powers : All HasRow (all_powers Y.answer.presentation.rank) =
-      All-map HasRow power (numbers_from 1 n) (all-numbers (λ (j : ℕ). HasRow (power j)) 1 n (λ j a l. power-row j a (omega arith))) in
+      All-map HasRow power (numbers_from 1 n) (All-numbers (λ (j : ℕ). HasRow (power j)) 1 n (λ j a l. power-row j a (omega arith))) in
       let both : All HasRow (qualifying_relations Y.answer c) =
       All-append HasRow (filter test (all_commutators n)) (filter test (all_powers n))
       (All-filter test HasRow (all_commutators n) commutators) (All-filter test HasRow (all_powers n) powers) in
@@ -115,7 +99,7 @@ module _ (Y : RowedAnswer) (is : IsRowedAnswer Y) (c : ℕ) where
         (contains-map (λ (k : ℕ). commutator (suc j) k) (numbers_from 1 j) (suc i) (Contains-numbers_from 1 j (suc i) (omega arith) (omega arith))) in
         relation-spanned d
         (Contains-append_left (filter test (all_commutators n)) (filter test (all_powers n)) d
-        (contains-filter test (all_commutators n) d within passes))
+        (Contains-filter test (all_commutators n) d within passes))
 
     pub power-spanned : (j : ℕ) → j < Y.answer.presentation.rank → weight_at Y.answer j ≡ c
         → InSpan Y.answer.presentation.prime Y.width (qualifying_rows Y c) (row_at Y (power (suc j)))
@@ -127,4 +111,4 @@ module _ (Y : RowedAnswer) (is : IsRowedAnswer Y) (c : ℕ) where
         contains-map power (numbers_from 1 n) (suc j) (Contains-numbers_from 1 n (suc j) (omega arith) (omega arith)) in
         relation-spanned d
         (Contains-append_right (filter test (all_commutators n)) (filter test (all_powers n)) d
-        (contains-filter test (all_powers n) d within (eq-eqb (weight_at Y.answer j) c w)))
+        (Contains-filter test (all_powers n) d within (eq-eqb (weight_at Y.answer j) c w)))

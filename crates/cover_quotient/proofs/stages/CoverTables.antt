@@ -1,6 +1,6 @@
 -- A cover modulo a basis whose span holds the overlap rows has a table of normal words, which is that of the next answer, with the
 -- same elements for the images; they obey an L-presentation whose relators have rows in the span.
-use Rattle.std.proofs.Common.{◌≡◌, ℕ, suc, ◌<◌, ℤ, List, [], ◌∷◌, get_or, length, map, refl, ap, sym, ◌∙◌, subst, arith}
+use Rattle.std.proofs.Common.{◌≡◌, ℕ, ℤ, List, [], length, ap, sym, ◌∙◌, subst, arith}
 use Rattle.std.proofs.lemmas.List.{length-map, ext_get_or}
 use Rattle.pq_base.specs.LPresentation.{LPresentation, IsLPresentation, IsRelator, Obeys}
 use Rattle.pq_base.specs.SignedWord.{sub}
@@ -16,6 +16,7 @@ use Rattle.pq_base.proofs.PrimeLaws.{offered-two}
 use Rattle.p_cover.specs.RowedAnswer.{RowedAnswer, IsRowedAnswer, rowed, states_with, rowed_images}
 use Rattle.p_cover.specs.Covers.{CoverOf}
 use Rattle.p_cover.proofs.RowedSpellings.{rowed_image}
+use Rattle.p_cover.proofs.LiftedImages.{length-states_with}
 use Rattle.cover_quotient.specs.AnswerLaws.{IsBasisOver, HasRowOf}
 use Rattle.cover_quotient.specs.NextAnswer.{next_answer, kept_sources, cover_modulo, eliminated}
 use Rattle.cover_quotient.specs.KeptTailLaws.{flat_table, image_elements}
@@ -25,17 +26,11 @@ use Rattle.cover_quotient.proofs.next_answers.NextWords.{image-followed}
 use Rattle.pc_presentation.proofs.rows.FlatLaws.{length-followed_by}
 use Rattle.cover_quotient.proofs.qualifying.QualifyingSpan.{flat_words_are_a_table}
 
--- as many images with rows as images
-length-states : (es xs : List (List ℕ)) → length es ≡ length xs → length (states_with es xs) ≡ length es
-length-states [] xs h = refl
-length-states (e ∷ es) [] h = absurd (omega arith)
-length-states (e ∷ es) (x ∷ xs) h = ap suc (length-states es xs (omega arith))
-
 module _ (Y : RowedAnswer) (is : IsRowedAnswer Y) where
   length-rowed_images : length (rowed_images Y) ≡ length Y.answer.names
   length-rowed_images =
       length-map (states_with Y.answer.images Y.image_rows) _
-      ∙ length-states Y.answer.images Y.image_rows (is.answer.image_count ∙ sym is.image_count)
+      ∙ length-states_with Y.answer.images Y.image_rows (is.answer.image_count ∙ sym is.image_count)
       ∙ is.answer.image_count
 
   -- the images of the next answer are those with rows

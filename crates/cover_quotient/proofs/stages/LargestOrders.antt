@@ -1,15 +1,14 @@
 -- The largest quotient has the order of its rank. Its normal words are a table of as many elements as the order says. Each
 -- relator has value 0 at the images, and each element is the value of a word over the images, by what the generators spell.
 -- A map into another table sends each element to the value of its normal word.
-use Rattle.std.proofs.Common.{◌≡◌, ℕ, zero, suc, ◌+◌, ◌<◌, ◌^◌, ℤ, List, [], ◌∷◌, ◌++◌, get_or, length, map, ap, ap₂, sym, ◌∙◌, subst, arith}
+use Rattle.std.proofs.Common.{◌≡◌, ℕ, ◌+◌, ◌<◌, ◌^◌, ℤ, List, [], ◌++◌, get_or, length, map, ap, ap₂, sym, ◌∙◌, subst, arith}
 use Rattle.std.proofs.Math.ListN.{get_or-map}
-use Rattle.std.proofs.lemmas.List.{length-map}
 use Rattle.pq_base.specs.SignedWord.{sub, HasLetters}
-use Rattle.pq_base.specs.LPresentation.{LPresentation, Obeys, AreWords}
+use Rattle.pq_base.specs.LPresentation.{LPresentation}
 use Rattle.pq_base.specs.Table.{Table, IsGroup, AllBelow, HasTableClass, times, value}
 use Rattle.pq_base.specs.Presentation.{Presentation, IsNormal, normal_word}
 use Rattle.pq_base.specs.Joined.{Joined}
-use Rattle.pq_base.specs.Answer.{Answer, AreNormal, image_words, spell}
+use Rattle.pq_base.specs.Answer.{Answer, image_words, spell}
 use Rattle.pq_base.specs.Largest.{IsLargest, Factors, Carries, HasValue, HasOrder}
 use Rattle.pq_base.proofs.words.LetterLaws.{HasLetters-append, HasLetters-normal_word, HasLetters-get_or, HasLetters-sub}
 use Rattle.pq_base.proofs.tables.TableLaws.{value-below}
@@ -19,14 +18,11 @@ use Rattle.pc_presentation.specs.NormalTable.{list_from, digits, normal_table, g
 use Rattle.pc_presentation.proofs.rows.SingleRows.{length-list_from, get_or-list_from}
 use Rattle.pc_presentation.proofs.normal_tables.DigitLaws.{digits-normal, number_of-digits}
 use Rattle.pc_presentation.proofs.normal_tables.LevelWords.{tables_have_the_class}
+use Rattle.pc_presentation.proofs.normal_tables.NormalTableLaws.{AllBelow-list_from}
 use Rattle.cover_quotient.specs.OrderLaws.{LargestQuotientsHaveTheOrder}
 use Rattle.cover_quotient.specs.Stages.{image_numbers}
 use Rattle.cover_quotient.proofs.stages.ImageNumbers.{own-table, length-image_numbers, image_numbers-below, value-image_numbers, AreWords-image_words, obeys-from_kills}
 use Rattle.pq_base.proofs.words.SpellingLetters.{AreWords-spelling_words}
-
-AllBelow-values : (m : ℕ) (f : ℕ → ℕ) (i d : ℕ) → ((j : ℕ) → f j < m) → AllBelow m (list_from f i d)
-AllBelow-values m f i zero h = tt
-AllBelow-values m f i (suc d) h = (h i, AllBelow-values m f (suc i) d h)
 
 module _ (L : LPresentation) (p k : ℕ) (A : Answer) (big : 1 < p) (is : IsLargest L p k A) where
   abbrev P : Presentation
@@ -138,7 +134,7 @@ module _ (L : LPresentation) (p k : ℕ) (A : Answer) (big : 1 < p) (is : IsLarg
       map = sent;
       homomorphism = record {
         count = length-list_from (λ (x : ℕ). value U h (word_of x)) 0 (normal_table A.presentation).size;
-        elements = AllBelow-values U.size (λ (x : ℕ). value U h (word_of x)) 0 (normal_table A.presentation).size
+        elements = AllBelow-list_from U.size (λ (x : ℕ). value U h (word_of x)) 0 (normal_table A.presentation).size
             (λ x. value-below U group h through.elements (word_of x));
         products = sent-products;
       };

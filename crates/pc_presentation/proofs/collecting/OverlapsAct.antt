@@ -221,7 +221,8 @@ module _ (Y : RowedPresentation) (rowed : IsRowed Y) (big : 1 < Y.base.prime) (n
   pub one_more : RelationsAct Y (suc n) k
   one_more = relations-act Y rowed (omega arith) n k size acts passed_acts turns fixed
 
-no_relations : (Y : RowedPresentation) (k : ℕ) → k + 0 ≡ Y.base.rank → RelationsAct Y 0 k
+-- behind the last generator there are no relations
+pub no_relations : (Y : RowedPresentation) (k : ℕ) → k + 0 ≡ Y.base.rank → RelationsAct Y 0 k
 no_relations Y k size s v _ _ _ (swap_from j i a b f g m q) = absurd (omega arith)
 no_relations Y k size s v _ _ _ (power_from i a f m) = absurd (omega arith)
 

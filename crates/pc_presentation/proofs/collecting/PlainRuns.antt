@@ -5,6 +5,7 @@ use Rattle.std.proofs.lemmas.List.{map-append, append-nil}
 use Rattle.std.proofs.lemmas.Bool.{cases_lt}
 use Rattle.pq_base.specs.Table.{AllBelow}
 use Rattle.pq_base.specs.Presentation.{power_side, commutator_side}
+use Rattle.fp_rows.proofs.BelowLaws.{AllBelow-append}
 use Rattle.pc_presentation.specs.Rowed.{RowedPresentation, IsRowed, power_row, commutator_row, row_sum}
 use Rattle.pc_presentation.specs.Collection.{Configuration, State, IsState, spelled, configuration_of, add_row, before, push_word, push_power, push_past, plain_push, DirectedRun}
 use Rattle.pc_presentation.specs.Collection.Run.{stop}
@@ -15,10 +16,6 @@ use Rattle.pc_presentation.proofs.collecting.RunLaws.{RunFrom, replacement_at_st
 use Rattle.pc_presentation.proofs.collecting.RunLaws.ReplacementFrom.{swap_from, power_from}
 
 -- letters below a number
-pub AllBelow-append : (n : ℕ) (u v : List ℕ) → AllBelow n u → AllBelow n v → AllBelow n (u ++ v)
-AllBelow-append n [] v h i = i
-AllBelow-append n (x ∷ u) v h i = (h.0, AllBelow-append n u v h.1 i)
-
 pub AllBelow-replicate : (n e i : ℕ) → i < n → AllBelow n (replicate e i)
 AllBelow-replicate n zero i h = tt
 AllBelow-replicate n (suc e) i h = (h, AllBelow-replicate n e i h)

@@ -5,6 +5,7 @@ use Rattle.pq_base.specs.Table.{AllBelow}
 use Rattle.pq_base.specs.Presentation.{Presentation, power_side, commutator_side}
 use Rattle.pq_base.specs.Joined.{IsConsistent}
 use Rattle.pq_base.proofs.PrimeLaws.{positive_prime}
+use Rattle.fp_rows.proofs.BelowLaws.{AllBelow-append}
 use Rattle.pc_presentation.specs.Rowed.{RowedPresentation, IsRowed, power_row, commutator_row, without_rows, flat}
 use Rattle.pc_presentation.specs.Collection.{State, IsState, identity, spelled, add_row, push_word, plain_push}
 use Rattle.pc_presentation.specs.Overlaps.{Overlap, IsOverlap, left_way, right_way, AgreesPlainly, PushChain, Agrees}
@@ -14,7 +15,7 @@ use Rattle.pc_presentation.specs.CollectionLaws.{PlainPushesAreRuns, RowsRideAlo
 use Rattle.pc_presentation.proofs.rows.RowLaws.{row_sum-zeros, identity-state}
 use Rattle.pc_presentation.proofs.collecting.PlainRule.{plain-state, plain-rides}
 use Rattle.pc_presentation.proofs.collecting.RunLaws.{replacement_from, run-weaken}
-use Rattle.pc_presentation.proofs.collecting.PlainRuns.{plain_push-run, AllBelow-append, AllBelow-replicate, AllBelow-spelled}
+use Rattle.pc_presentation.proofs.collecting.PlainRuns.{plain_push-run, AllBelow-replicate, AllBelow-spelled}
 use Rattle.pc_presentation.proofs.collecting.StateProducts.{RelationsAct}
 use Rattle.pc_presentation.proofs.collecting.OverlapsFrom.{PushChainFrom, AgreesFrom, AllAgreeFrom}
 use Rattle.pc_presentation.proofs.collecting.OverlapsFrom.OverlapFrom.{triple_from, left_from, right_from, own_from}

@@ -7,11 +7,12 @@ use Rattle.pq_base.specs.Joined.{Joined, IsConsistent}
 use Rattle.pq_base.proofs.words.WordLaws.{word_from-append}
 use Rattle.pq_base.proofs.words.JoinedLaws.{joined-sym, joined-trans, joined-from_equal, joined-cancel_left}
 use Rattle.pq_base.proofs.PrimeLaws.{positive_prime}
+use Rattle.fp_rows.proofs.BelowLaws.{AllBelow-append}
 use Rattle.pc_presentation.specs.Rowed.{RowedPresentation, IsRowed, without_rows, flat}
 use Rattle.pc_presentation.specs.Collection.{State, IsState, spelled, letters, signed_word, configuration_of}
 use Rattle.pc_presentation.specs.Overlaps.{IsPushed}
 use Rattle.pc_presentation.specs.CollectionLaws.{ConsistentPushesAreUnique, PushesOverConsistentBase}
-use Rattle.pc_presentation.proofs.collecting.PlainRuns.{AllBelow-append, AllBelow-spelled}
+use Rattle.pc_presentation.proofs.collecting.PlainRuns.{AllBelow-spelled}
 use Rattle.pc_presentation.proofs.rows.FlatLaws.{nothing, without_rows-rowed, flat-without_rows}
 use Rattle.pc_presentation.proofs.consistent.LetterWords.{letters-spelled}
 use Rattle.pc_presentation.proofs.rows.TailLaws.{run-joined_flat}

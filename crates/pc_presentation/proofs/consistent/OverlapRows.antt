@@ -1,7 +1,7 @@
 -- Where both ways of an overlap reach the same exponents, the difference of their rows is a trivial word: the ends of the two
 -- ways are joined, equal exponents cancel, and what is added to the one row to make the other is trivial. Over a consistent
 -- base they do.
-use Rattle.std.proofs.Common.{◌≡◌, ℕ, ◌<◌, List, [], ◌++◌, sym, ◌∙◌, subst}
+use Rattle.std.proofs.Common.{◌≡◌, ◌↔◌, ℕ, ◌<◌, Bool, IsTrue, List, [], ◌++◌, sym, ◌∙◌, subst}
 use Rattle.pq_base.specs.Presentation.{IsNormal, word_from}
 use Rattle.pq_base.specs.Joined.{Joined, IsConsistent}
 use Rattle.pq_base.proofs.words.JoinedLaws.{joined-trans, joined-cancel_left, joined-cancel_right}
@@ -17,6 +17,12 @@ use Rattle.pc_presentation.proofs.consistent.Consistency.{left_way-below, right_
 use Rattle.pc_presentation.proofs.rows.TailLaws.{row_words-add}
 use Rattle.pc_presentation.proofs.consistent.ConsistentOverlaps.{left_way-row, right_way-row, end-state, ways-joined, ways-over_base}
 use Rattle.pc_presentation.proofs.rows.RowsCentral.{row_sum-add_rows}
+
+-- equal exponents of two states that are known
+pub same_exponents : (b : Bool) (l m r s : State) → l ≡ m → r ≡ s → (IsTrue b ↔ (l.exponents ≡ r.exponents))
+    → (IsTrue b ↔ (m.exponents ≡ s.exponents))
+same_exponents b l m r s e f h =
+    subst (λ (t : State). IsTrue b ↔ (t.exponents ≡ s.exponents)) e (subst (λ (t : State). IsTrue b ↔ (l.exponents ≡ t.exponents)) f h)
 
 module _ (Y : RowedPresentation) (rowed : IsRowed Y) (big : 1 < Y.base.prime) where
   -- the word of the difference of two rows whose words are joined

@@ -3,6 +3,7 @@
 use Rattle.std.proofs.Common.{◌≡◌, ℕ, suc, pred, ◌-◌, ◌<◌, ◌≤◌, None, List, [], ◌∷◌, ◌++◌, length, replicate, ap, sym, ◌∙◌, subst, arith, append_assoc, append-nil}
 use Rattle.pq_base.specs.Table.{AllBelow}
 use Rattle.pq_base.specs.Presentation.{commutator_side}
+use Rattle.fp_rows.proofs.BelowLaws.{AllBelow-append}
 use Rattle.pc_presentation.specs.declared.syllable.Syllable.{Syllable}
 use Rattle.pc_presentation.specs.declared.relation.Relation.TheVariants.{Commutator}
 use Rattle.pc_presentation.specs.Syllable.{syllable, AreGenerators}
@@ -14,7 +15,7 @@ use Rattle.pc_presentation.specs.Arithmetic.{IsMeaning}
 use Rattle.pc_presentation.specs.Tailed.{Element, rowed_presentation, IsElement, with_state, places_of, sparse_configuration}
 use Rattle.pc_presentation.specs.OverlapNumbers.{before_side}
 use Rattle.pc_presentation.proofs.presentations.WordTests.{All-cons, All-head, All-tail}
-use Rattle.pc_presentation.proofs.collecting.PlainRuns.{AllBelow-append, AllBelow-replicate}
+use Rattle.pc_presentation.proofs.collecting.PlainRuns.{AllBelow-replicate}
 use Rattle.pc_presentation.proofs.collecting.PushLaws.{push_word-append}
 use Rattle.pc_presentation.proofs.rows.RowLaws.{row_sum-zeros, identity-state}
 use Rattle.pc_presentation.proofs.quotients.TailedLaws.{rowed_presentation-is}

@@ -1,16 +1,16 @@
 -- Where the relations act, each relator of the flat reading has value one in the group of states, and the value of a normal
 -- word is the state of its exponents. So joined normal words are equal.
-use Rattle.std.proofs.Common.{◌≡◌, ℕ, zero, suc, ◌+◌, ◌-◌, ◌<◌, ℤ, pos, List, [], ◌∷◌, ◌++◌, length, take, drop, replicate, ap, sym, ◌∙◌, subst, arith, inl, inr, length-drop}
+use Rattle.std.proofs.Common.{◌≡◌, ℕ, suc, ◌+◌, ◌-◌, ◌<◌, ℤ, pos, List, [], ◌∷◌, ◌++◌, length, take, drop, replicate, ap, sym, ◌∙◌, subst, arith, inl, inr, length-drop}
 use Rattle.std.proofs.Math.Nat.{mod_self}
 use Rattle.std.proofs.lemmas.List.{take-append-drop, length-take-le}
 use Rattle.std.proofs.lemmas.Bool.{cases_lt}
 use Rattle.pq_base.specs.SignedWord.{copies, comm}
-use Rattle.pq_base.specs.Table.{AllBelow}
 use Rattle.pq_base.specs.Presentation.{IsRelatorOf, IsNormal, letter, word_from, normal_word, power_side, commutator_side, power_word, commutator_word}
 use Rattle.pq_base.specs.Presentation.IsRelatorOf.{power_relator, commutator_relator}
 use Rattle.pq_base.specs.Joined.{Joined}
 use Rattle.pq_base.proofs.words.WordLaws.{word_from-append, word_from-zeros}
 use Rattle.pq_base.proofs.groups.Groups.{Group, value_in, value_in-append, value_in-letter, value_in-joined}
+use Rattle.fp_rows.proofs.BelowLaws.{AllBelow-take, AllBelow-drop}
 use Rattle.pc_presentation.specs.Rowed.{RowedPresentation, IsRowed, power_row, commutator_row, flat}
 use Rattle.pc_presentation.specs.NormalTable.{single}
 use Rattle.pc_presentation.specs.Collection.{State, IsState, identity, spelled, configuration_of, add_row}
@@ -146,16 +146,6 @@ module _ (Y : RowedPresentation) (rowed : IsRowed Y) (big : 1 < Y.base.prime) (a
       ∙ ap (λ (y : List ℕ). record { exponents = h; row = y }) (zeros-row_sum Y.base.prime Y.width x b)
 
   -- exponents of the flat reading are exponents and a row
-  AllBelow-take : (p i : ℕ) (e : List ℕ) → AllBelow p e → AllBelow p (take i e)
-  AllBelow-take p zero e h = tt
-  AllBelow-take p (suc i) [] h = tt
-  AllBelow-take p (suc i) (x ∷ e) h = (h.0, AllBelow-take p i e h.1)
-
-  AllBelow-drop : (p i : ℕ) (e : List ℕ) → AllBelow p e → AllBelow p (drop i e)
-  AllBelow-drop p zero e h = h
-  AllBelow-drop p (suc i) [] h = tt
-  AllBelow-drop p (suc i) (x ∷ e) h = AllBelow-drop p i e h.1
-
   value-normal : (e : List ℕ) → IsNormal Y.base.prime (Y.base.rank + Y.width) e
       → state_value (normal_word e) ≡ record { exponents = take Y.base.rank e; row = drop Y.base.rank e }
   value-normal e h =

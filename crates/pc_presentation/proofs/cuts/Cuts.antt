@@ -15,7 +15,7 @@ use Rattle.pq_base.proofs.words.JoinedLaws.{joined-from_equal, joined-sym, joine
 use Rattle.pq_base.proofs.groups.Groups.{Group, value_in, value_in-same}
 use Rattle.pq_base.proofs.groups.GroupQuotients.{IsNormalSet, differ_by, differ-same, differ-joined, quotient_group, value_in-quotient}
 use Rattle.pq_base.proofs.words.WordGroup.{word_group, value_in-word_group, joined-sub}
-use Rattle.pc_presentation.proofs.collecting.PlainRuns.{AllBelow-append}
+use Rattle.fp_rows.proofs.BelowLaws.{AllBelow-append}
 use Rattle.pc_presentation.proofs.rows.RowLaws.{zeros-normal}
 use Rattle.pc_presentation.proofs.consistent.Reached.{words-reach}
 use Rattle.pc_presentation.specs.RowedLaws.{projection}

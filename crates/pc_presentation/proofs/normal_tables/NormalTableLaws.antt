@@ -25,7 +25,8 @@ word-single (suc n) k zero c l =
 word-single (suc n) k (suc i) c l =
     word-single n (suc k) i c (omega arith) ∙ ap (λ (m : ℕ). copies (letter m) c) (let e : suc k + i ≡ k + suc i = omega arith in e)
 
-AllBelow-list_from : (m : ℕ) (f : ℕ → ℕ) (i d : ℕ) → ((j : ℕ) → f j < m) → AllBelow m (list_from f i d)
+-- the list of values below a number
+pub AllBelow-list_from : (m : ℕ) (f : ℕ → ℕ) (i d : ℕ) → ((j : ℕ) → f j < m) → AllBelow m (list_from f i d)
 AllBelow-list_from m f i zero h = tt
 AllBelow-list_from m f i (suc d) h = (h i, AllBelow-list_from m f (suc i) d h)
 

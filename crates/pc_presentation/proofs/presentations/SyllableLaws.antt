@@ -7,6 +7,7 @@ use Rattle.pq_base.specs.SignedWord.{copies, sub}
 use Rattle.pq_base.proofs.words.WordLaws.{sub-letter}
 use Rattle.pq_base.specs.Table.{AllBelow}
 use Rattle.pq_base.specs.Presentation.{word_from}
+use Rattle.pq_base.specs.Answer.{word_at}
 use Rattle.pc_presentation.specs.declared.syllable.Syllable.{Syllable}
 use Rattle.pc_presentation.specs.Syllable.{syllable, first_exponent, after_first, spread, syllables_of, AreSyllables, letters_of, SparseWordsAreExponents}
 
@@ -141,6 +142,11 @@ letters_of-more w i d l =
     ap letters_of (take_more w i d l)
     ∙ letters_of-append (take i w) (get_or w i d ∷ [])
     ∙ ap (λ (x : List ℤ). letters_of (take i w) ++ x) (append-nil (copies (pos (get_or w i d).generator ∷ []) (get_or w i d).exponent))
+
+-- an entry of a list of words, counted from 1
+pub word_at-place : (words : List (List ℤ)) (g : ℕ) → 1 ≤ g → word_at words g ≡ get_or words (g - 1) []
+word_at-place words zero l = absurd (omega arith)
+word_at-place words (suc g) l = let place : suc g - 1 ≡ g = omega arith in ap (λ (n : ℕ). get_or words n []) (sym place)
 
 -- the value of the letter of a generator, counted from 1
 pub sub-number : (g : ℕ) (words : List (List ℤ)) → 1 ≤ g → sub (pos g ∷ []) words ≡ get_or words (g - 1) []

@@ -10,6 +10,7 @@ use Rattle.pq_base.specs.Joined.{Joined}
 use Rattle.pq_base.proofs.words.WordLaws.{word_from-zeros, inv-append}
 use Rattle.pq_base.proofs.words.JoinedLaws.{joined-sym, joined-trans, joined-from_equal, joined-append_left, joined-append_right, joined-solve_right}
 use Rattle.pq_base.proofs.PrimeLaws.{positive_prime}
+use Rattle.fp_rows.proofs.BelowLaws.{AllBelow-append}
 use Rattle.pc_presentation.specs.Rowed.{RowedPresentation, IsRowed, row_sum, flat}
 use Rattle.pc_presentation.specs.Collection.{Configuration, State, IsState, identity, spelled, letters, configuration_of, add_row, push_word}
 use Rattle.pc_presentation.specs.Collection.Run.{stop, move}
@@ -17,7 +18,7 @@ use Rattle.pc_presentation.specs.Arithmetic.{IsMeaning, product_by, word_of, eva
 use Rattle.pc_presentation.specs.CollectionLaws.{PlainRuleIsAMeaning, CollectorsHaveArithmetic}
 use Rattle.pc_presentation.proofs.rows.RowLaws.{zeros-row_sum, identity-state}
 use Rattle.pc_presentation.proofs.collecting.PlainRule.{spelled-suc, spelled-zeros}
-use Rattle.pc_presentation.proofs.collecting.PlainRuns.{AllBelow-append, AllBelow-spelled}
+use Rattle.pc_presentation.proofs.collecting.PlainRuns.{AllBelow-spelled}
 use Rattle.pc_presentation.proofs.collecting.RunLaws.{RunFrom, replacement_from, run-weaken}
 use Rattle.pc_presentation.proofs.collecting.StateProducts.{push_configuration-identity}
 use Rattle.pc_presentation.proofs.collecting.StepPlaces.{StepAt, IsIrreducible, step-suffix, placed_step}

@@ -3,8 +3,7 @@
 use Rattle.std.proofs.Common.{◌≡◌, ℕ, zero, suc, ◌-◌, ◌<◌, ◌≤◌, Option, List, [], ◌∷◌, ◌++◌, get_or, length, replicate, take, ap, ◌∙◌, arith}
 use Rattle.std.proofs.Math.ListN.{set}
 use Rattle.std.proofs.lemmas.List.{length-set, length-replicate}
-use Rattle.fp_rows.proofs.BelowLaws.{AllBelow-set}
-use Rattle.pq_base.specs.Table.{AllBelow}
+use Rattle.fp_rows.proofs.BelowLaws.{AllBelow-set, AllBelow-append, AllBelow-take}
 use Rattle.pq_base.specs.Presentation.{IsNormal}
 use Rattle.pq_base.proofs.tables.TableLaws.{get_or-below}
 use Rattle.pc_presentation.specs.Pcp.{TailedPresentation, row_of}
@@ -13,14 +12,8 @@ use Rattle.pc_presentation.specs.Tailed.{Element, rowed_presentation, IsElement,
 use Rattle.pq_base.proofs.PrimeLaws.{positive_prime}
 use Rattle.pc_presentation.proofs.rows.TailRowLaws.{row_of-normal}
 use Rattle.pc_presentation.proofs.rows.RowLaws.{AllBelow-zeros, row_sum-normal}
-use Rattle.pc_presentation.proofs.collecting.PlainRuns.{AllBelow-append}
 use Rattle.pc_presentation.proofs.collecting.PlainRule.{plain-state}
 use Rattle.pc_presentation.proofs.quotients.TailedLaws.{rowed_presentation-is}
-
-AllBelow-take : (p i : ℕ) (xs : List ℕ) → AllBelow p xs → AllBelow p (take i xs)
-AllBelow-take p zero xs h = tt
-AllBelow-take p (suc i) [] h = tt
-AllBelow-take p (suc i) (x ∷ xs) h = (h.0, AllBelow-take p i xs h.1)
 
 length-cleared : (i : ℕ) (xs : List ℕ) → i ≤ length xs → length (cleared_after i xs) ≡ length xs
 length-cleared zero xs h =

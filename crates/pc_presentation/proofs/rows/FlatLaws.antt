@@ -5,9 +5,9 @@ use Rattle.std.proofs.lemmas.List.{append-nil, length-replicate, length-map, get
 use Rattle.std.proofs.lemmas.Bool.{cases_lt}
 use Rattle.std.proofs.Math.ListN.{get_or-map}
 use Rattle.pq_base.specs.Presentation.{Presentation, IsPresentation, IsLaterSide, IsNormal, power_side, commutator_side}
+use Rattle.fp_rows.proofs.BelowLaws.{AllBelow-append}
 use Rattle.pc_presentation.specs.Rowed.{RowedPresentation, IsRowed, power_row, commutator_row, without_rows, followed_by, tables_followed_by, tail_powers, tail_commutators, flat}
 use Rattle.pc_presentation.proofs.rows.RowLaws.{AllBelow-zeros}
-use Rattle.pc_presentation.proofs.collecting.PlainRuns.{AllBelow-append}
 
 -- lists followed by lists
 pub length-followed_by : (xs ys : List (List ℕ)) → length xs ≡ length ys → length (followed_by xs ys) ≡ length xs

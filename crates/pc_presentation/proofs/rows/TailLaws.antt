@@ -10,6 +10,7 @@ use Rattle.pq_base.specs.Joined.{Joined}
 use Rattle.pq_base.proofs.words.WordLaws.{copies-add, copies-mul, copies-nil, word_from-zeros}
 use Rattle.pq_base.proofs.words.JoinedLaws.{joined-refl, joined-from_equal, joined-sym, joined-trans, joined-append, joined-append_left, joined-append_right, joined-copies, power-joined, commutator-joined, letter-swap-joined, commute-from_comm}
 use Rattle.pq_base.proofs.PrimeLaws.{positive_prime}
+use Rattle.fp_rows.proofs.BelowLaws.{AllBelow-append}
 use Rattle.pc_presentation.specs.Rowed.{RowedPresentation, IsRowed, power_row, commutator_row, row_sum, flat}
 use Rattle.pc_presentation.specs.Collection.{Configuration, State, IsState, Step, Replacement, DirectedRun, spelled, letters, signed_word, configuration_of, plain_push}
 use Rattle.pc_presentation.specs.Collection.Step.{replace}
@@ -17,7 +18,7 @@ use Rattle.pc_presentation.specs.Collection.Run.{stop, move}
 use Rattle.pc_presentation.specs.Collection.Replacement.{swap, power}
 use Rattle.pc_presentation.specs.CollectionLaws.{DirectedRunsAreJoined, PlainPushesAreJoined}
 use Rattle.pc_presentation.proofs.rows.RowLaws.{row_sum-comm, row_sum-normal}
-use Rattle.pc_presentation.proofs.collecting.PlainRuns.{plain_push-run, AllBelow-append, AllBelow-spelled}
+use Rattle.pc_presentation.proofs.collecting.PlainRuns.{plain_push-run, AllBelow-spelled}
 use Rattle.pc_presentation.proofs.consistent.LetterWords.{letters-append, letters-replicate, word_from-side_and_row}
 use Rattle.pc_presentation.proofs.rows.FlatLaws.{power_side-flat, power_side-tail, commutator_side-flat, commutator_side-tail}
 

@@ -3,9 +3,10 @@ use Rattle.pc_presentation.specs.Collection.{State, plain_push}
 use Rattle.pc_presentation.specs.Tailed.{rowed_presentation}
 use Rattle.pc_presentation.specs.OverlapNumbers.{overlap_of}
 use Rattle.pc_presentation.specs.OverlapRows.{left_end, right_end}
+use Rattle.pc_presentation.proofs.consistent.OverlapRows.{same_exponents}
 use Rattle.fp_rows.specs.Differences.{difference}
 use Rattle.p_cover.specs.Covers.{cover_presentation}
-use Rattle.cert_checker.proofs.found_rows.SourceRows.{end_of_way, alike_ends}
+use Rattle.cert_checker.proofs.found_rows.SourceRows.{end_of_way}
 use Rattle.cert_checker.proofs.overlap_rows.overlap_row.Goals as goal
 
 pub returns-clause-agrees : goal.returns-clause-agrees
@@ -13,7 +14,7 @@ returns-clause-agrees c =
     let T = cover_presentation c.args.cover.now in
     let Y = rowed_presentation T in
     let o = overlap_of c.args.overlap in
-    alike_ends c.subtract_if_alike.result c.left.result.now.state (left_end Y (plain_push Y) o) c.right.result.now.state
+    same_exponents c.subtract_if_alike.result c.left.result.now.state (left_end Y (plain_push Y) o) c.right.result.now.state
     (right_end Y (plain_push Y) o)
     (end_of_way left_end T c.pcp.result.now o c.left.result.now c.two_ways.new.s.left c.left.ensures c.pcp.ensures.presentation
     c.two_ways.ensures.left)

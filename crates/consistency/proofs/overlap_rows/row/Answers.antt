@@ -10,7 +10,8 @@ use Rattle.fp_rows.specs.Row.{PrimeRow}
 use Rattle.p_cover.specs.Covers.{cover_presentation}
 use Rattle.fp_rows.specs.Differences.{difference}
 use Rattle.pc_presentation.specs.OverlapRows.{left_end, right_end}
-use Rattle.consistency.proofs.CoverRows.{end-in_cover, exponents-agree, overlap_row-length, cover_row-trivial, either_way, same_exponents}
+use Rattle.pc_presentation.proofs.consistent.OverlapRows.{same_exponents}
+use Rattle.consistency.proofs.CoverRows.{end-in_cover, exponents-agree, overlap_row-length, cover_row-trivial, either_way}
 use Rattle.consistency.proofs.overlap_rows.row.Goals as goal
 
 pub returns-clause-agrees : goal.returns-clause-agrees

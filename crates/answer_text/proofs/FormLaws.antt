@@ -1,5 +1,5 @@
 -- A line that has the form of a line in its place has no newline in it, and leads to one place only.
-use Rattle.std.proofs.Common.{◌≡◌, ◌<◌, ◌≤◌, ℕ, zero, suc, true, List, [], ◌∷◌, ◌++◌, drop, decimal, refl, ap, ap₂, sym, ◌∙◌, inl, inr, arith}
+use Rattle.std.proofs.Common.{◌≡◌, ◌<◌, ◌≤◌, ℕ, zero, suc, true, List, [], ◌∷◌, ◌++◌, drop, decimal, refl, ap, ap₂, sym, subst, ◌∙◌, inl, inr, arith}
 use Rattle.std.specs.Prelude.{codes}
 use Rattle.std.proofs.lemmas.Fmt.{decimal_injective}
 use Rattle.pq_base.specs.Limits.{max_rank}
@@ -13,8 +13,10 @@ use Rattle.answer_text.specs.declared.source.Source.{Source}
 use Rattle.answer_text.specs.declared.source.Source.TheVariants.{Image, RightSide}
 use Rattle.answer_text.specs.Words.{word_text}
 use Rattle.answer_text.specs.AnswerPlaces.{Place, HasForm, IsSource, left_text, source_text, order_of}
-use Rattle.answer_text.specs.AnswerPlaces.Place.{for_class, for_order, in_body}
+use Rattle.answer_text.specs.AnswerPlaces.Place.{for_class, for_order, in_body, at_end}
 use Rattle.answer_text.specs.AnswerPlaces.HasForm.{prime, class, rank, order, generator, relation, image, last}
+use Rattle.answer_text.specs.AnswerFaults.{IsEnd}
+use Rattle.answer_text.proofs.lines.LineByLine.{TellsPlaces}
 use Rattle.answer_text.proofs.Splits.{first-apart, avoids, avoids-append, avoids-decimal, decimal-same}
 use Rattle.answer_text.proofs.texts.WordTexts.{AreWritten, avoids-word}
 use Rattle.answer_text.proofs.texts.RelationTexts.{power-commutator-apart, commutator_text-same, power_text-long}
@@ -93,3 +95,17 @@ form-same (image p n m name v z is b) (last p2 n2 m2) h = absurd (first-apart 10
 form-same (last p n m) (relation p2 n2 m2 r w z2 is2 rises some a) h = absurd (first-apart 101 114 _ _ refl h)
 form-same (last p n m) (image p2 n2 m2 other w z2 is2 a) h = absurd (first-apart 101 105 _ _ refl h)
 form-same (last p n m) (last p2 n2 m2) h = refl
+
+no_form_at_end : (l : List ℕ) (Q : Place) → HasForm at_end l Q → ⊥
+no_form_at_end l Q f = elim f [ ]
+
+no-form-IsEnd : (P Q : Place) (l : List ℕ) → IsEnd P → HasForm P l Q → ⊥
+no-form-IsEnd P Q l end f = no_form_at_end l Q (subst (λ (x : Place). HasForm x l Q) end f)
+
+-- so the lines of an answer's text tell the places between them
+pub tells_places : TellsPlaces Place HasForm IsEnd
+tells_places = record {
+  avoids_newline = λ P Q l f. avoids-form f;
+  leads_to_one = λ P Q R l k f g e. form-same f g e;
+  nothing_follows = no-form-IsEnd;
+}

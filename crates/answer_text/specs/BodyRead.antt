@@ -1,12 +1,13 @@
 -- What was read of the lines behind the generators: each has its form in its place, and they are those of a presentation,
 -- of names and of words.
-use Rattle.std.specs.Prelude.{◌≡◌, ◌<◌, ◌≤◌, ◌+◌, ℕ, List, [], ◌∷◌, ◌++◌, length, codes}
+use Rattle.std.specs.Prelude.{◌≡◌, ◌<◌, ◌≤◌, ◌+◌, ℕ, List, [], ◌++◌, length, codes}
 use Rattle.pq_base.specs.Limits.{max_class}
 use Rattle.pq_base.specs.Lines.{text_of_lines}
 use Rattle.pc_presentation.specs.Parts.{AreImages}
 use Rattle.answer_text.specs.declared.source.Source.{Source}
 use Rattle.answer_text.specs.AnswerText.{head_lines}
 use Rattle.answer_text.specs.OneText.{AreNames}
+use Rattle.answer_text.specs.LineByLine as line_by_line
 use Rattle.answer_text.specs.AnswerPlaces.{Place, HasForm, behind_relations}
 use Rattle.answer_text.specs.AnswerPlaces.Place.{in_body}
 use Rattle.answer_text.specs.ReadSoFar.{word_lines, source_lines, AreSources}
@@ -14,8 +15,7 @@ use Rattle.answer_text.specs.Drafts.{IsDraft, SoFar, all_lines}
 
 -- the lines lead from the first place to the second
 abbrev pub Leads : Place → List (List ℕ) → Place → Type 0
-Leads P [] Q = P ≡ Q
-Leads P (l ∷ ls) Q = (M : Place) × HasForm P l M × Leads M ls Q
+Leads = line_by_line.Leads Place HasForm
 
 -- the lines of relations and images
 abbrev pub body_lines : ℕ → SoFar → List (List ℕ)

@@ -1,4 +1,5 @@
 pub mod Lines
+pub mod LineByLine
 pub mod Words
 pub mod AnswerText
 pub mod AnswerData

@@ -1,4 +1,5 @@
-// The JSON text of an answer.
+//! The JSON text of an answer.
+
 ghost use Rattle.std.specs.Prelude.{◌≡◌, ◌≤◌, ◌-◌, ◌++◌, [], ◌∷◌, IfOk, OnOk, map, get_or};
 ghost use Rattle.serde_json.specs.View.{view};
 ghost use Rattle.answer_text.specs.AnswerData.{list_data, number_data, definition_data, powers_data, commutator_row_data, commutators_data, images_data, answer_data, answer_json};

@@ -1,4 +1,5 @@
-// Words, definitions and relations as JSON values.
+//! Words, definitions and relations as JSON values.
+
 ghost use Rattle.std.specs.Prelude.{◌≡◌, ◌++◌, [], ◌∷◌, IfOk, OnOk, map};
 ghost use Rattle.pq_base.specs.Name.{name_text};
 ghost use Rattle.serde_json.specs.Data.{string};

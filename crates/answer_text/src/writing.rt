@@ -1,4 +1,5 @@
-// The text of an answer, part by part.
+//! The text of an answer, part by part.
+
 ghost use Rattle.std.specs.Prelude.{◌≡◌, ◌<◌, ◌≤◌, ◌++◌, ◌-◌, [], ◌∷◌, OnOk, IfOk, get_or, length, codes};
 ghost use Rattle.pq_base.specs.Answer.{class_of, definition_at};
 ghost use Rattle.pq_base.specs.Lines.{text_of_lines};

@@ -7,12 +7,12 @@ use Rattle.answer_text.proofs.OneText.{one_text_one_answer}
 use Rattle.derivation_log.specs.declared.source.Run.TheVariants.{Whole}
 use Rattle.derivation_log.specs.Certificates.{StepLines, Certificate}
 use Rattle.cert_text.specs.CertificateText.{OneTextOneCertificate}
-use Rattle.cert_text.specs.LineByLine.{IsWhole}
+use Rattle.answer_text.specs.LineByLine.{IsWhole}
 use Rattle.cert_text.specs.CertificatePlaces.{Place, HasForm, IsEnd, Head, head_of}
 use Rattle.cert_text.specs.CertificatePlaces.Place.{for_version, for_generators, in_presentation, for_class, for_run, in_run, in_answer}
 use Rattle.cert_text.specs.CertificatePlaces.HasForm.{of_answer}
 use Rattle.cert_text.specs.CertificateFaults.{OneFaultLine, FaultsAreNoCertificates}
-use Rattle.cert_text.proofs.lines.LineByLine.{Leads-same, first_bad-same, IsWhole-same}
+use Rattle.answer_text.proofs.lines.LineByLine.{Leads-same, first_bad-same, IsWhole-same}
 use Rattle.cert_text.proofs.lines.FormLaws.{tells_places}
 use Rattle.cert_text.proofs.lines.CertificateLeads.{front_lines, head, certificate_text-parts, front-leads, answer-form}
 use Rattle.cert_text.proofs.lines.CertificateLeads.{IsWhole-certificate_text}

@@ -13,7 +13,7 @@ use Rattle.derivation_log.specs.declared.source.RowSource.TheVariants.{Test, Fix
 use Rattle.derivation_log.specs.Certificates.{StepLines, Certificate}
 use Rattle.answer_text.proofs.Splits.{first-apart, nil-split}
 use Rattle.cert_text.specs.CertificateText.{certificate_text, HasText, IsWritable}
-use Rattle.cert_text.specs.LineByLine.{IsWhole}
+use Rattle.answer_text.specs.LineByLine.{IsWhole}
 use Rattle.cert_text.specs.CertificatePlaces.{Place, HasForm, IsEnd}
 use Rattle.cert_text.specs.CertificatePlaces.Place.{for_version, for_generators}
 use Rattle.cert_text.specs.CertificatePlaces.HasForm.{version}

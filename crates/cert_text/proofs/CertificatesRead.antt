@@ -18,15 +18,15 @@ use Rattle.derivation_log.specs.declared.source.Run.TheVariants.{Whole}
 use Rattle.derivation_log.specs.Certificates.{StepLines, Certificate}
 use Rattle.derivation_log.specs.CertificateForms.{IsCertificate, first_version}
 use Rattle.cert_text.specs.CertificateText.{certificate_text, IsWritable}
-use Rattle.cert_text.specs.LineByLine.{Leads, IsWhole, IsFirstBad}
+use Rattle.answer_text.specs.LineByLine.{Leads, IsWhole, IsFirstBad}
 use Rattle.cert_text.specs.CertificatePlaces.{Place, HasForm, IsEnd, Head}
 use Rattle.cert_text.specs.CertificatePlaces.Place.{for_version, in_run, in_answer}
 use Rattle.cert_text.specs.CertificateFaults.{IsCertificateText, IsFaultLine}
 use Rattle.cert_text.specs.ReadSoFar.{lines_in_front, IsFrontRead, newlines}
 use Rattle.cert_text.proofs.CertificateLaws.{IsInAnswer, stays, head_at, earlier_at, steps_at, certificate-same}
-use Rattle.cert_text.proofs.lines.LineByLine.{Leads-append, Leads-same}
+use Rattle.answer_text.proofs.lines.LineByLine.{Leads-append, Leads-same}
 use Rattle.cert_text.proofs.lines.FormLaws.{tells_places}
-use Rattle.cert_text.proofs.lines.FaultSteps.{IsFirstBad-behind}
+use Rattle.answer_text.proofs.lines.FaultSteps.{IsFirstBad-behind}
 use Rattle.cert_text.proofs.lines.BadLines.{lines-and-line}
 use Rattle.cert_text.proofs.lines.CertificateLeads.{front_lines, head, certificate_text-parts, in_front-leads, in_front-answer, front-leads}
 use Rattle.cert_text.proofs.lines.CertificateLeads.{answer-form, IsWhole-in_answer}

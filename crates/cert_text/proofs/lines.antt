@@ -2,10 +2,8 @@
 pub mod BadLines
 pub mod CanonicalTexts
 pub mod CertificateLeads
-pub mod FaultSteps
 pub mod FormLaws
 pub mod FrontsRead
-pub mod LineByLine
 pub mod FirstLines
 pub mod PresentationLeads
 pub mod PresentationLines

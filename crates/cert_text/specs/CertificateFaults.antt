@@ -9,7 +9,7 @@ use Rattle.cert_text.specs.declared.fault.CertFault.TheVariants.{Line, NoMemory}
 use Rattle.cert_text.specs.CertificateText.{certificate_text, IsWritable}
 use Rattle.cert_text.specs.CertificatePlaces.{Place, HasForm, IsEnd}
 use Rattle.cert_text.specs.CertificatePlaces.Place.{for_version}
-use Rattle.cert_text.specs.LineByLine.{IsWhole, IsFirstBad}
+use Rattle.answer_text.specs.LineByLine.{IsWhole, IsFirstBad}
 
 abbrev pub IsCertificateText : List ℕ → Type 0
 IsCertificateText bytes = (c : Certificate) × IsWritable c × (bytes ≡ certificate_text c)

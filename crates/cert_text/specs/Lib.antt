@@ -1,5 +1,4 @@
 pub mod CertificateText
-pub mod LineByLine
 pub mod CertificatePlaces
 pub mod CertificateFaults
 pub mod NumberFronts

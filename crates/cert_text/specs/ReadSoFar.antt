@@ -16,7 +16,7 @@ use Rattle.cert_text.specs.declared.fault.CertFault.{CertFault}
 use Rattle.cert_text.specs.declared.fault.CertFault.TheVariants.{Line, NoMemory}
 use Rattle.lpres_reader.specs.CanonicalText.{canonical_text, canonical_lines}
 use Rattle.cert_text.specs.CertificateText.{HasText, version_line, run_line, run_lines, iterated_lines, source_line, tail_line, steps_lines}
-use Rattle.cert_text.specs.LineByLine.{IsFirstBad}
+use Rattle.answer_text.specs.LineByLine.{IsFirstBad}
 use Rattle.cert_text.specs.CertificatePlaces.{Place, HasForm, IsEnd, Head, IsHead}
 
 -- the first line without its form, where lines count from a first number

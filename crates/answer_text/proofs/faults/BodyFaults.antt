@@ -1,5 +1,5 @@
 -- The first bad line behind what was read of relations and images.
-use Rattle.std.proofs.Common.{◌≡◌, ◌+◌, ℕ, true, List, [], ◌∷◌, ◌++◌, length, sym, subst, arith}
+use Rattle.std.proofs.Common.{◌≡◌, ◌+◌, ℕ, true, List, [], ◌∷◌, ◌++◌, length, refl, sym, subst, arith}
 use Rattle.std.specs.Prelude.{codes}
 use Rattle.answer_text.specs.declared.fault.AnswerFault.TheVariants.{Line}
 use Rattle.answer_text.specs.Lines.{avoids}
@@ -10,6 +10,7 @@ use Rattle.answer_text.specs.AnswerFaults.{IsFirstBad}
 use Rattle.answer_text.specs.ReadSoFar.{IsBadAt}
 use Rattle.answer_text.specs.Drafts.{IsDraft, SoFar}
 use Rattle.answer_text.specs.BodyRead.{body_lines, IsBodyRead}
+use Rattle.answer_text.proofs.FormLaws.{tells_places}
 use Rattle.answer_text.proofs.faults.FaultLaws.{IsFirstBad-here, IsFirstBad-step}
 use Rattle.answer_text.proofs.lines.BadLines.{no-line, bad-line, open-body, IsFirstBad-behind}
 
@@ -30,13 +31,10 @@ pub bad_line-body : (p n number : ℕ) (ws text rest line more : List ℕ) (S : 
 bad_line-body p n number ws text rest line more S b cut whole only other =
     IsBadAt-body p n number 0 number ws text rest S b (bad-line (in_body p n 0 S.place) rest line more cut whole (λ Q f. other (only b.draft Q f))) (omega arith)
 
-no_form_at_end : (l : List ℕ) (Q : Place) → HasForm at_end l Q → ⊥
-no_form_at_end l Q f = elim f [ ]
-
 -- something behind the last line
 pub behind_end-body : (p n number after : ℕ) (ws text rest line more : List ℕ) (S : SoFar) → IsBodyRead p n ws text rest number S → rest ≡ line ++ 10 ∷ more → line ≡ codes "end"
     → ¬ (more ≡ []) → after ≡ number + 1 → IsBadAt (in_body p n 0 0) text (n + 5) (Line after)
 behind_end-body p n number after ws text rest line more S b cut is some one =
-    let bad : IsFirstBad at_end more 0 = IsFirstBad-here at_end more (λ l rest2 Q f e. no_form_at_end l Q f) (λ e none. some none) in
+    let bad : IsFirstBad at_end more 0 = IsFirstBad-here at_end more (λ l rest2 Q f e. tells_places.nothing_follows at_end Q l refl f) (λ e none. some none) in
     let form : HasForm (in_body p n 0 S.place) line at_end = subst (λ (x : List ℕ). HasForm (in_body p n 0 S.place) x at_end) (sym is) (last p n S.place) in
     IsBadAt-body p n number 1 after ws text rest S b (IsFirstBad-step (in_body p n 0 S.place) at_end line more rest 0 form cut bad) one

@@ -11,14 +11,14 @@ use Rattle.answer_text.specs.AnswerText.{head_lines}
 use Rattle.answer_text.specs.AnswerPlaces.{Place, HasForm, IsScale, IsSource, prime_line, class_line, rank_line, order_line, source_line}
 use Rattle.answer_text.specs.AnswerPlaces.Place.{for_prime, for_class, for_rank, for_order, in_body, at_end}
 use Rattle.answer_text.specs.AnswerPlaces.HasForm.{prime, class, rank, order, generator}
-use Rattle.answer_text.specs.AnswerFaults.{IsWhole, IsFirstBad}
+use Rattle.answer_text.specs.AnswerFaults.{IsEnd, IsWhole, IsFirstBad}
 use Rattle.answer_text.specs.declared.fault.AnswerFault.{AnswerFault}
 use Rattle.answer_text.specs.declared.fault.AnswerFault.TheVariants.{Line, NoMemory}
 use Rattle.answer_text.specs.ReadSoFar.{IsBadAt, source_lines, AreSources}
 use Rattle.pq_base.proofs.LineLaws.{text_of_lines-append}
-use Rattle.answer_text.proofs.Splits.{nil-split, split-same}
-use Rattle.answer_text.proofs.texts.PieceTexts.{avoids-not}
-use Rattle.answer_text.proofs.FormLaws.{avoids-form}
+use Rattle.answer_text.proofs.Splits.{nil-split}
+use Rattle.answer_text.proofs.FormLaws.{tells_places}
+use Rattle.answer_text.proofs.lines.FaultSteps as fault_steps
 use Rattle.answer_text.proofs.faults.FaultLaws.{IsFirstBad-here, IsFirstBad-step}
 use Rattle.answer_text.specs.BodyRead.{Leads}
 
@@ -28,13 +28,13 @@ IsOpen P = P ≡ at_end → ⊥
 
 -- no whole line
 pub no-line : (P : Place) (bytes : List ℕ) → IsOpen P → avoids 10 bytes ≡ true → IsFirstBad P bytes 0
-no-line P bytes unended a = IsFirstBad-here P bytes
-    (λ l rest Q f e. avoids-not 10 l rest (ap (λ (x : List ℕ). avoids 10 x) (sym e) ∙ a)) (λ e none. unended e)
+no-line P bytes unended a =
+    IsFirstBad-here P bytes (fault_steps.IsStuck-no_line Place HasForm IsEnd tells_places P bytes a) (λ e none. unended e)
 
 -- a line without its form
 pub bad-line : (P : Place) (bytes line rest : List ℕ) → bytes ≡ line ++ 10 ∷ rest → avoids 10 line ≡ true → ((Q : Place) → HasForm P line Q → ⊥) → IsFirstBad P bytes 0
-bad-line P bytes line rest cut a no_form = IsFirstBad-here P bytes
-    (λ l more Q f e. no_form Q (subst (λ (x : List ℕ). HasForm P x Q) (split-same 10 l line more rest (avoids-form f) a (sym e ∙ cut)).0 f))
+bad-line P bytes line rest cut a no_form =
+    IsFirstBad-here P bytes (fault_steps.IsStuck-line Place HasForm IsEnd tells_places P bytes line rest cut a no_form)
     (λ e none. nil-split 10 line rest (sym none ∙ cut))
 
 pub no-prime : (line : List ℕ) → ((p : ℕ) → IsOffered p → ¬ (line ≡ prime_line p)) → (Q : Place) → HasForm for_prime line Q → ⊥
@@ -68,14 +68,9 @@ open-body p n left m e = cc
 
 -- a first bad line behind lines that have their form
 pub IsFirstBad-behind : (P Q : Place) (ls : List (List ℕ)) (bytes rest : List ℕ) (k : ℕ) → Leads P ls Q → bytes ≡ text_of_lines ls ++ rest → IsFirstBad Q rest k → IsFirstBad P bytes (length ls + k)
-IsFirstBad-behind P Q [] bytes rest k a e bad =
-    let same : k ≡ 0 + k = omega arith in
-    subst (λ (x : ℕ). IsFirstBad P bytes x) same (subst (λ (x : List ℕ). IsFirstBad P x k) (sym e) (subst (λ (x : Place). IsFirstBad x rest k) (sym a) bad))
-IsFirstBad-behind P Q (l ∷ ls) bytes rest k a e bad =
-    let same : suc (length ls + k) ≡ suc (length ls) + k = omega arith in
-    subst (λ (x : ℕ). IsFirstBad P bytes x) same
-    (IsFirstBad-step P a.0 l (text_of_lines ls ++ rest) bytes (length ls + k) a.1 (e ∙ append_assoc l (10 ∷ text_of_lines ls) rest)
-    (IsFirstBad-behind a.0 Q ls (text_of_lines ls ++ rest) rest k a.2 refl bad))
+IsFirstBad-behind P Q ls bytes rest k a e bad =
+    subst (λ (x : List ℕ). IsFirstBad P x (length ls + k)) (sym e)
+    (fault_steps.IsFirstBad-behind Place HasForm IsEnd tells_places P Q ls rest k a bad)
 
 pub IsWhole-after : (P Q : Place) (ls : List (List ℕ)) (bytes rest : List ℕ) (k : ℕ) → Leads P ls Q → bytes ≡ text_of_lines ls ++ rest → IsWhole Q rest k → IsWhole P bytes (length ls + k)
 IsWhole-after P Q [] bytes rest k a e w =

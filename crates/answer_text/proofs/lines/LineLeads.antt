@@ -1,5 +1,5 @@
 -- Where the lines of generators and of relations lead to.
-use Rattle.std.proofs.Common.{◌≡◌, ◌<◌, ◌≤◌, ◌+◌, ◌*◌, ℕ, zero, suc, List, [], ◌∷◌, ◌++◌, get_or, length, refl, sym, subst, arith}
+use Rattle.std.proofs.Common.{◌≡◌, ◌<◌, ◌≤◌, ◌+◌, ◌*◌, ℕ, zero, suc, List, [], ◌∷◌, ◌++◌, get_or, length, refl, arith}
 use Rattle.pq_base.specs.Limits.{max_class, max_rank}
 use Rattle.pq_base.specs.Name.{IsName}
 use Rattle.pq_base.specs.Table.{AllBelow}
@@ -17,12 +17,13 @@ use Rattle.answer_text.specs.AnswerText.{generator_line, generator_lines, relati
 use Rattle.answer_text.specs.AnswerPlaces.{Place, HasForm, IsScale, left_text, order_of}
 use Rattle.answer_text.specs.AnswerPlaces.Place.{in_body, at_end}
 use Rattle.answer_text.specs.AnswerPlaces.HasForm.{generator, relation}
-use Rattle.answer_text.specs.AnswerFaults.{IsWhole}
+use Rattle.answer_text.specs.AnswerFaults.{IsEnd, IsWhole}
 use Rattle.answer_text.specs.BodyRead.{Leads}
+use Rattle.answer_text.proofs.FormLaws.{tells_places}
+use Rattle.answer_text.proofs.lines.LineByLine as line_by_line
 
 pub Leads-append : (P Q R : Place) (ls ks : List (List ℕ)) → Leads P ls Q → Leads Q ks R → Leads P (ls ++ ks) R
-Leads-append P Q R [] ks a b = subst (λ (x : Place). Leads x ks R) (sym a) b
-Leads-append P Q R (l ∷ ls) ks a b = (a.0, a.1, Leads-append a.0 Q R ls ks a.2 b)
+Leads-append = line_by_line.Leads-append Place HasForm IsEnd tells_places
 
 pub IsWhole-Leads : (P : Place) (ls : List (List ℕ)) → Leads P ls at_end → IsWhole P (text_of_lines ls) (length ls)
 IsWhole-Leads P [] a = (a, refl)

@@ -16,14 +16,14 @@ use Rattle.derivation_log.specs.CertificateForms.{are_steps_in}
 use Rattle.cert_text.specs.declared.fault.CertFault.{CertFault}
 use Rattle.cert_text.specs.declared.fault.CertFault.TheVariants.{Line, NoMemory}
 use Rattle.cert_text.specs.CertificateText.{run_line, run_lines, steps_lines, iterated_lines}
-use Rattle.cert_text.specs.LineByLine.{Leads, IsFirstBad}
+use Rattle.answer_text.specs.LineByLine.{Leads, IsFirstBad}
 use Rattle.cert_text.specs.CertificatePlaces.{Place, HasForm, IsEnd, Head, IsHead}
 use Rattle.cert_text.specs.CertificatePlaces.Place.{in_presentation, for_class, for_run, in_run}
 use Rattle.cert_text.specs.CertificatePlaces.HasForm.{prime, first_of_two_runs, second_run}
 use Rattle.cert_text.specs.ReadSoFar.{IsBadAt, IsRunRead, AreRunsRead, GoesOnWithP}
 use Rattle.cert_text.proofs.lines.FormLaws.{tells_places}
-use Rattle.cert_text.proofs.lines.LineByLine.{Leads-append}
-use Rattle.cert_text.proofs.lines.FaultSteps.{IsStuck, IsFirstBad-here, IsFirstBad-behind, IsStuck-no_line, IsStuck-line}
+use Rattle.answer_text.proofs.lines.LineByLine.{Leads-append}
+use Rattle.answer_text.proofs.lines.FaultSteps.{IsStuck, IsFirstBad-here, IsFirstBad-behind, IsStuck-no_line, IsStuck-line}
 use Rattle.cert_text.proofs.lines.RunLeads.{steps-lead}
 use Rattle.cert_text.proofs.lines.StuckPlaces.{first_run, no-prime, no-class, no-run}
 

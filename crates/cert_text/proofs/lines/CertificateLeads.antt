@@ -17,12 +17,12 @@ use Rattle.derivation_log.specs.declared.source.Run.TheVariants.{Iterated, Whole
 use Rattle.derivation_log.specs.Certificates.{StepLines, Certificate, has_two_runs}
 use Rattle.cert_text.specs.CertificateText.{IsWritable, version_line, run_line, steps_lines, iterated_lines, runs_lines, certificate_lines}
 use Rattle.cert_text.specs.CertificateText.{certificate_text}
-use Rattle.cert_text.specs.LineByLine.{Leads, IsWhole}
+use Rattle.answer_text.specs.LineByLine.{Leads, IsWhole}
 use Rattle.cert_text.specs.CertificatePlaces.{Place, HasForm, IsEnd, Head, head_of}
 use Rattle.cert_text.specs.CertificatePlaces.Place.{for_version, for_generators, in_presentation, for_class, for_run, in_run, in_answer}
 use Rattle.cert_text.specs.CertificatePlaces.HasForm.{version, prime, class, first_of_two_runs, only_run, second_run, answer, of_answer}
 use Rattle.cert_text.specs.ReadSoFar.{IsFront, lines_in_front}
-use Rattle.cert_text.proofs.lines.LineByLine.{Leads-append, IsWhole-Leads}
+use Rattle.answer_text.proofs.lines.LineByLine.{Leads-append, IsWhole-Leads}
 use Rattle.cert_text.proofs.lines.FormLaws.{tells_places}
 use Rattle.cert_text.proofs.lines.PresentationLeads.{presentation-leads}
 use Rattle.cert_text.proofs.lines.RunLeads.{steps-lead}

@@ -21,7 +21,7 @@ use Rattle.cert_text.specs.CertificatePlaces.HasForm.{tail, second_run, answer, 
 use Rattle.cert_text.proofs.texts.NumberTexts.{decimal-told, avoids-any_decimal}
 use Rattle.cert_text.proofs.texts.SourceTexts.{IsWrittenSource-in, source_line-same, avoids-source_line}
 use Rattle.cert_text.proofs.texts.TailTexts.{IsWrittenTail, IsWrittenTail-is_tail_line, tail_line-same, avoids-tail_line}
-use Rattle.cert_text.proofs.lines.LineByLine.{TellsPlaces}
+use Rattle.answer_text.proofs.lines.LineByLine.{TellsPlaces}
 use Rattle.cert_text.proofs.lines.PresentationLines.{canonical_lines-same, avoids-item, no_prime-item, begins_with_p}
 
 pub avoids-form : {P Q : Place} {l : List ℕ} → HasForm P l Q → avoids 10 l ≡ true

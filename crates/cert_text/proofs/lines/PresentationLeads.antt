@@ -9,11 +9,11 @@ use Rattle.pq_base.specs.LPresentation.{LPresentation, AreWords, AreEndos}
 use Rattle.lpres_reader.specs.CanonicalText.{word_text, generators_line, relator_lines, endo_line, endo_lines, canonical_lines}
 use Rattle.lpres_reader.specs.Limits.{AreShort, letters_in}
 use Rattle.cert_text.specs.CertificateText.{HasText}
-use Rattle.cert_text.specs.LineByLine.{Leads}
+use Rattle.answer_text.specs.LineByLine.{Leads}
 use Rattle.cert_text.specs.CertificatePlaces.{Place, HasForm, IsEnd}
 use Rattle.cert_text.specs.CertificatePlaces.Place.{for_generators, in_presentation}
 use Rattle.cert_text.specs.CertificatePlaces.HasForm.{generators, item}
-use Rattle.cert_text.proofs.lines.LineByLine.{Leads-append}
+use Rattle.answer_text.proofs.lines.LineByLine.{Leads-append}
 use Rattle.cert_text.proofs.lines.FormLaws.{tells_places}
 
 abbrev with_parts : List (List ℕ) → List (List ℤ) → List (List ℤ) → List (List (List ℤ)) → LPresentation

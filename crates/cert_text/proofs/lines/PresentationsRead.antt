@@ -13,7 +13,7 @@ use Rattle.pq_base.proofs.LineLaws.{text_of_lines-append}
 use Rattle.lpres_reader.specs.CanonicalText.{canonical_text, canonical_lines}
 use Rattle.answer_text.proofs.Splits.{avoids}
 use Rattle.cert_text.specs.CertificateText.{HasText}
-use Rattle.cert_text.specs.LineByLine.{Leads}
+use Rattle.answer_text.specs.LineByLine.{Leads}
 use Rattle.cert_text.specs.CertificatePlaces.{Place, HasForm, IsEnd}
 use Rattle.cert_text.specs.CertificatePlaces.Place.{for_generators, in_presentation}
 use Rattle.cert_text.specs.CertificatePlaces.HasForm.{generators, item, prime}

@@ -10,11 +10,11 @@ use Rattle.derivation_log.specs.Certificates.{TailLine, StepLines}
 use Rattle.derivation_log.specs.CertificateForms.{are_tail_lines, is_source_in, are_sources_in, are_steps_in}
 use Rattle.derivation_log.proofs.NextTailLines.{tail_lines-front}
 use Rattle.cert_text.specs.CertificateText.{source_line, tail_line, steps_lines}
-use Rattle.cert_text.specs.LineByLine.{Leads}
+use Rattle.answer_text.specs.LineByLine.{Leads}
 use Rattle.cert_text.specs.CertificatePlaces.{Place, HasForm, IsEnd, Head, IsHead, no_lines}
 use Rattle.cert_text.specs.CertificatePlaces.Place.{in_run}
 use Rattle.cert_text.specs.CertificatePlaces.HasForm.{step, source, tail}
-use Rattle.cert_text.proofs.lines.LineByLine.{Leads-append}
+use Rattle.answer_text.proofs.lines.LineByLine.{Leads-append}
 use Rattle.cert_text.proofs.lines.FormLaws.{tells_places}
 
 abbrev step_of : List RowSource → List TailLine → StepLines

@@ -11,12 +11,12 @@ use Rattle.derivation_log.specs.declared.source.Run.{Run}
 use Rattle.derivation_log.specs.Certificates.{StepLines}
 use Rattle.derivation_log.specs.CertificateForms.{are_sources_in, are_tail_lines, are_steps_in}
 use Rattle.cert_text.specs.CertificateText.{source_line, tail_line, step_line, step_lines, steps_lines}
-use Rattle.cert_text.specs.LineByLine.{Leads, IsFirstBad}
+use Rattle.answer_text.specs.LineByLine.{Leads, IsFirstBad}
 use Rattle.cert_text.specs.CertificatePlaces.{Place, HasForm, IsEnd, Head, IsHead}
 use Rattle.cert_text.specs.CertificatePlaces.Place.{in_run}
 use Rattle.cert_text.specs.ReadSoFar.{IsStepRead, HasNoMore, AreStepsRead, end_line}
 use Rattle.cert_text.proofs.lines.FormLaws.{tells_places}
-use Rattle.cert_text.proofs.lines.FaultSteps.{IsFirstBad-here, IsFirstBad-behind}
+use Rattle.answer_text.proofs.lines.FaultSteps.{IsFirstBad-here, IsFirstBad-behind}
 use Rattle.cert_text.proofs.lines.RunLeads.{steps-lead}
 use Rattle.cert_text.proofs.lines.StuckPlaces.{HasNoFurther, no-step}
 

@@ -17,7 +17,7 @@ use Rattle.derivation_log.specs.Certificates.{TailLine, StepLines, has_two_runs}
 use Rattle.derivation_log.specs.CertificateForms.{is_source_in, are_tail_lines}
 use Rattle.cert_text.specs.CertificateText.{HasText, version_line, run_line, step_line, source_line, tail_line}
 pub use Rattle.cert_text.specs.ReadSoFar.{end_line}
-use Rattle.cert_text.specs.LineByLine.{Leads, Begins, IsWhole, IsFirstBad}
+use Rattle.answer_text.specs.LineByLine.{Leads, Begins, IsWhole, IsFirstBad}
 use Rattle.cert_text.specs.CertificatePlaces.{Place, HasForm, IsEnd, Head}
 use Rattle.cert_text.specs.CertificatePlaces.Place.{for_version, for_generators, in_presentation, for_class, for_run, in_run, in_answer}
 use Rattle.cert_text.specs.CertificatePlaces.HasForm.{version, generators, item, prime, class, first_of_two_runs, only_run, step, source}

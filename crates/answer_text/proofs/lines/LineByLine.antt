@@ -4,7 +4,7 @@ use Rattle.std.proofs.Common.{◌≡◌, ◌≤◌, ℕ, zero, suc, true, List, 
 use native.Mathlib.Decide.{dec_lt}
 use Rattle.pq_base.specs.Lines.{text_of_lines}
 use Rattle.answer_text.proofs.Splits.{avoids, split-same}
-use Rattle.cert_text.specs.LineByLine as line_by_line
+use Rattle.answer_text.specs.LineByLine as line_by_line
 
 -- no line has a newline in it, each leads to one place, and nothing follows an end
 pub record TellsPlaces (Place : Type 0) (HasForm : Place → List ℕ → Place → Type 0) (IsEnd : Place → Type 0) : Type 0 where

@@ -5,8 +5,8 @@ use Rattle.std.specs.List.{AllByRecursion}
 use Rattle.answer_text.proofs.texts.PieceTexts.{avoids-not}
 use Rattle.pq_base.specs.Lines.{text_of_lines}
 use Rattle.answer_text.proofs.Splits.{avoids, nil-split, split-same}
-use Rattle.cert_text.specs.LineByLine as line_by_line
-use Rattle.cert_text.proofs.lines.LineByLine.{TellsPlaces, IsWhole-step}
+use Rattle.answer_text.specs.LineByLine as line_by_line
+use Rattle.answer_text.proofs.lines.LineByLine.{TellsPlaces, IsWhole-step}
 
 module _ (Place : Type 0) (HasForm : Place → List ℕ → Place → Type 0) (IsEnd : Place → Type 0)
     (tells : TellsPlaces Place HasForm IsEnd) where
@@ -49,7 +49,7 @@ module _ (Place : Type 0) (HasForm : Place → List ℕ → Place → Type 0) (I
   some_line P Q l rest bytes (suc n) e w = (n, refl)
 
   -- behind a line
-  IsFirstBad-step : (P Q : Place) (l rest bytes : List ℕ) (k : ℕ) → HasForm P l Q → bytes ≡ l ++ 10 ∷ rest → IsFirstBad Q rest k
+  pub IsFirstBad-step : (P Q : Place) (l rest bytes : List ℕ) (k : ℕ) → HasForm P l Q → bytes ≡ l ++ 10 ∷ rest → IsFirstBad Q rest k
       → IsFirstBad P bytes (suc k)
   IsFirstBad-step P Q l rest bytes k f e bad = record {
     begins = (l, Q, rest, f, e, bad.begins);

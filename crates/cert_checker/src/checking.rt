@@ -15,8 +15,7 @@ use crate::judged::judged_last;
 use crate::maps::make_map;
 use crate::refusal::CheckRefusal;
 use crate::run::judge_run;
-use derivation_log::{Cert, Part, Run};
-use lpres_reader::LPres;
+use derivation_log::{Cert, Part, Run, has_two_runs};
 use pc_presentation::Answer;
 use std::alloc::Global;
 
@@ -45,13 +44,6 @@ fn judge_first(alloc: Global, cert: &Cert) -> Result<Option<Answer>, CheckRefusa
     } else {
         Ok(None)
     }
-}
-
-/// Whether there are fixed relators and endomorphisms.
-fn has_two_runs(pres: &LPres) -> bool
-    ensures { result ≡ has_two_runs pres.now }
-{
-    !pres.fixed().is_empty() && !pres.endos().is_empty()
 }
 
 /// Judges what comes after the run of the whole: the fixed relators, the map of the first answer, and that the answer is the built one.

@@ -9,9 +9,8 @@ ghost use Rattle.cert_text.specs.ReadSoFar.{IsBadAt, AreRunsRead};
 
 use crate::fault::CertFault;
 use crate::run_reading::read_run;
-use crate::writing::has_two_runs;
 use answer_text::pieces::behind;
-use derivation_log::{CertStep, Run};
+use derivation_log::{CertStep, Run, has_two_runs};
 use lpres_reader::LPres;
 use pq_base::Prime;
 use std::alloc::Global;

@@ -12,7 +12,7 @@ ghost use Rattle.cert_text.specs.CertificateText.{certificate_text, IsWritable};
 
 use crate::source_lines::push_sources;
 use crate::tail_lines::push_tails;
-use derivation_log::{Cert, CertStep, Run};
+use derivation_log::{Cert, CertStep, Run, has_two_runs};
 use lpres_reader::LPres;
 use pc_presentation::Answer;
 use pq_base::{NoMemory, Prime};
@@ -69,13 +69,6 @@ fn push_prime_and_class(out: &mut Vec<u8>, prime: Prime, asked: u8) -> Result<()
     let lines = format!(in *out.allocator(); "prime {prime}\nclass {asked}\n")?;
     out.extend_from_slice(lines.as_bytes())?;
     Ok(())
-}
-
-/// Whether the run over the iterated part comes first.
-pub(crate) fn has_two_runs(pres: &LPres) -> bool
-    ensures { result ≡ are_two_runs pres.now }
-{
-    !pres.fixed().is_empty() && !pres.endos().is_empty()
 }
 
 /// The run over the iterated part, where there are two runs.

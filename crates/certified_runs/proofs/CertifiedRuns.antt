@@ -22,17 +22,12 @@ use Rattle.certified_runs.specs.RunLaws.{OverlapsOfConsistentAnswersAgree, Kille
 use Rattle.certified_runs.specs.RunLaws.{ImagesMakeMaps, IsRunToLargest, HasFirstRun, CertificatesOfRunsAreValid}
 use Rattle.derivation_log.specs.ValidParts.{KeepsStep, KeepsRun, KeepsAll}
 use Rattle.derivation_log.proofs.ValidParts.{keeps-valid}
-use Rattle.derivation_log.proofs.PassedRuns.{PassesSteps, held-run-passes}
+use Rattle.derivation_log.proofs.PassedRuns.{PassesSteps, presentation_of-names, held-run-passes}
 use Rattle.derivation_log.proofs.JudgedOverlaps.{consistent-overlaps}
 use Rattle.certified_runs.proofs.RunAnswers.{give-answers}
 use Rattle.certified_runs.proofs.AnswerParts.{iterated-carried, fixed-carried}
 use Rattle.derivation_log.proofs.PlainGroups.{dead-carried}
 use Rattle.certified_runs.proofs.MapParts.{endos-induce, part-makes_map}
-
--- both presentations have the same names
-names-of : (c : Certificate) (run : Run) → (presentation_of c run).names ≡ c.presentation.names
-names-of c Iterated = refl
-names-of c Whole = refl
 
 -- what is judged of the steps before the rank, of their end, and what they build
 passes : (c : Certificate) (run : Run) (A : Answer) → IsRunTo c run A → PassesSteps full_kind c run A
@@ -47,7 +42,7 @@ rank c run A is limits =
     (trivial_answer c.prime ns) is.steps A
     × (length is.steps ≡ c.class))
     ⊎ AreStoppedSteps (presentation_of c run) plain_push full_cover_of full_kind.tested c.class (trivial_answer c.prime ns) is.steps A)
-    (names-of c run) is.held) limits.offered limits.answer limits.names limits.rank_limit
+    (presentation_of-names c run) is.held) limits.offered limits.answer limits.names limits.rank_limit
 
 -- the laws of the parts
 pub steps_are_not_extra : StepsPass part_of_run.Extra
@@ -125,7 +120,7 @@ module _ (c : Certificate) (words : IsLPresentation c.presentation) (offered : I
     limits = record {
       offered = offered;
       answer = is.largest.answer;
-      names = is.largest.names ∙ names-of c run;
+      names = is.largest.names ∙ presentation_of-names c run;
       rank_limit = is.rank_limit;
     }
 

@@ -11,7 +11,6 @@ use Rattle.p_cover.specs.Covers.{CoverOf}
 use Rattle.cover_quotient.specs.NextAnswer.{eliminated}
 use Rattle.cover_quotient.specs.Stages.{full_cover_of}
 use Rattle.derivation_log.specs.declared.source.Run.{Run}
-use Rattle.derivation_log.specs.declared.source.Run.TheVariants.{Iterated, Whole}
 use Rattle.derivation_log.specs.HeldSteps.{HeldStep}
 use Rattle.derivation_log.specs.HeldRuns.{IsHeldStep, AreHeldSteps, AreStoppedSteps}
 use Rattle.derivation_log.specs.HeldLines.{held_lines, IsTold, AreLinesOf}
@@ -19,12 +18,8 @@ use Rattle.derivation_log.specs.Certificates.{StepLines, Certificate, steps_of, 
 use Rattle.derivation_log.specs.CertificateRuns.{cover_at}
 use Rattle.derivation_log.specs.CertificateParts.{full_kind}
 use Rattle.derivation_log.proofs.BuiltRuns.{answer_of, held-at, told-at, line-at, step-is, step-told, cover-is}
+use Rattle.derivation_log.proofs.PassedRuns.{presentation_of-names}
 use Rattle.certified_runs.specs.RunLaws.{NamesFewSources, RunsNameFewSources}
-
--- both presentations have the same names
-names-of : (c : Certificate) (run : Run) → (presentation_of c run).names ≡ c.presentation.names
-names-of c Iterated = refl
-names-of c Whole = refl
 
 own : (A : Answer) → (full_cover_of A).answer ≡ A
 own A = refl
@@ -110,4 +105,4 @@ runs_name_few_sources c run A is k first last =
     (trivial_answer c.prime ns) is.steps A
     × (length is.steps ≡ c.class))
     ⊎ AreStoppedSteps (presentation_of c run) plain_push full_cover_of full_kind.tested c.class (trivial_answer c.prime ns) is.steps A)
-    (names-of c run) is.held) k first last
+    (presentation_of-names c run) is.held) k first last

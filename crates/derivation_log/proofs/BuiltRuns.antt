@@ -18,6 +18,15 @@ use Rattle.derivation_log.specs.HeldLines.{held_lines, IsTold, AreTold, AreLines
 use Rattle.derivation_log.specs.CertificateParts.{IsNotExtra}
 use Rattle.derivation_log.proofs.HeldCombinations.{held_lines_make_what_the_basis_makes}
 
+-- where a tail is kept the next answer is another, and where none is, the same
+pub next_where-kept : (ts : List ℕ) (A N : Answer) → ts ≢ [] → next_where ts A N ≡ N
+next_where-kept [] A N some = absurd (some refl)
+next_where-kept (t ∷ ts) A N some = refl
+
+pub next_where-none : (ts : List ℕ) (A N : Answer) → ts ≡ [] → next_where ts A N ≡ A
+next_where-none [] A N none = refl
+next_where-none (t ∷ ts) A N none = cc
+
 module _ (L : LPresentation) (meaning : RowedPresentation → State → ℕ → State) (cover : Answer → CoverOf)
     (tested : Answer → Overlap → Type 0) (same_answer : (A : Answer) → (cover A).answer ≡ A) where
   -- the answer after some of the steps
@@ -51,14 +60,6 @@ module _ (L : LPresentation) (meaning : RowedPresentation → State → ℕ → 
   told-at [] k d told l = absurd (omega arith)
   told-at (s ∷ ss) zero d told l = told.0
   told-at (s ∷ ss) (suc k) d told l = told-at ss k d told.1 (omega arith)
-
-  next_where-kept : (ts : List ℕ) (A N : Answer) → ts ≢ [] → next_where ts A N ≡ N
-  next_where-kept [] A N some = absurd (some refl)
-  next_where-kept (t ∷ ts) A N some = refl
-
-  next_where-none : (ts : List ℕ) (A N : Answer) → ts ≡ [] → next_where ts A N ≡ A
-  next_where-none [] A N none = refl
-  next_where-none (t ∷ ts) A N none = cc
 
   -- one step of lines
   next-kept : (A : Answer) (s : HeldStep) → IsKeptStep A s → IsTold s → next_by (cover A) (held_lines s) ≡ eliminated (cover A) s.rows

@@ -39,6 +39,11 @@ pub record PassesSteps (kind : CertificateKind) (c : Certificate) (run : Run) (B
   pub short : IsNotShort kind.cover c run
   pub builds : built_by kind.cover c run ≡ B
 
+-- the presentation of each run has the same names
+pub presentation_of-names : (c : Certificate) (run : Run) → (presentation_of c run).names ≡ c.presentation.names
+presentation_of-names c Iterated = refl
+presentation_of-names c Whole = refl
+
 abbrev plainly : RowedPresentation → State → ℕ → State
 plainly Y = plain_push Y
 
@@ -193,14 +198,10 @@ module _ (kind : CertificateKind) (same_answer : (A : Answer) → (kind.cover A)
       subst (λ (A : Answer). (AreHeldSteps L plainly kind.cover tested A steps B × (length steps ≡ c.class))
       ⊎ AreStoppedSteps L plainly kind.cover tested c.class A steps B) (sym same) h
 
-  same_names : (r : Run) → c.presentation.names ≡ (presentation_of c r).names
-  same_names Iterated = refl
-  same_names Whole = refl
-
   pub held-run-passes : (steps : List HeldStep) (B : Answer) → AreLinesOf (steps_of c run) steps
       → IsHeldRun L plainly kind.cover tested c.prime c.class steps B → PassesSteps kind c run B
   held-run-passes steps B lines h =
-      elim (named steps B h first (ap (trivial_answer c.prime) (same_names run))) [
+      elim (named steps B h first (ap (trivial_answer c.prime) (sym (presentation_of-names c run)))) [
         | inl all ↦ all-kept steps B lines all.0 all.1
         | inr stopped ↦
             all-but-last-kept stopped.earlier stopped.last B

@@ -39,8 +39,8 @@ fn is_answer_for(answer: &Answer, pres: &LPres, prime: Prime) -> bool
     answer.pcp().prime().value() == prime.value() && answer.names() == pres.names()
 }
 
-/// Whether there are fixed relators and endomorphisms.
-fn has_two_runs(pres: &LPres) -> bool
+/// Whether there are fixed relators and endomorphisms: the run over the iterated part comes first then.
+pub fn has_two_runs(pres: &LPres) -> bool
     ensures { result ≡ has_two_runs pres.now }
 {
     !pres.fixed().is_empty() && !pres.endos().is_empty()

@@ -17,7 +17,7 @@ pub mod tail_line;
 
 pub use certificate::Cert;
 pub use counts::RowCounts;
-pub use forms::{is_next_tail_line, is_source_in};
+pub use forms::{has_two_runs, is_next_tail_line, is_source_in};
 pub use full_log::FullLog;
 pub use log::{Log, NoLog};
 pub use part::Part;

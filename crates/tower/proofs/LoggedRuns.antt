@@ -76,10 +76,10 @@ module _ (full : Bool) (L : LPresentation) (meaning : RowedPresentation → Stat
   }
 
   -- a run is refused at a class whose rank is too large: the step to it was done
-  pub holds-too_large : (X Y : List HeldStep → Type 0) (n c rank : ℕ) (part : Run) (A : Answer) → HoldsSteps full L meaning p n X A
+  pub holds-too_large : (X Y : List HeldStep → Type 0) (n c rank : ℕ) (run : Run) (A : Answer) → HoldsSteps full L meaning p n X A
       → A.presentation.rank ≤ max_rank → IsLogged full L meaning A X Y (TooLarge rank)
-      → HoldsRefused full L meaning p c Y (refusal.TooLarge part (n + 1) rank)
-  holds-too_large X Y n c rank part A holds few logged =
+      → HoldsRefused full L meaning p c Y (refusal.TooLarge run (n + 1) rank)
+  holds-too_large X Y n c rank run A holds few logged =
       let s : HeldStep = logged.held in
       let same : (step_cover full A).answer.presentation.rank ≡ A.presentation.rank =
       ap (λ (B : Answer). B.presentation.rank) (step_cover-answer full A) in

@@ -103,5 +103,5 @@ presentations_obeyed_alike_have_same_answers L M p c alike =
 -- a refusal of a run over the one is a refusal of the other
 pub refusal-of_same : (L M : LPresentation) (p c : ℕ) (run : Run) (e : TowerRefusal) → HaveSameAnswersTo L M p c → IsRefusalOf M p c run e
     → IsRefusalOf L p c run e
-refusal-of_same L M p c run (TooLarge part k rank) same is = (is.0, (same.refusals k rank).1 is.1)
+refusal-of_same L M p c run (TooLarge other k rank) same is = (is.0, (same.refusals k rank).1 is.1)
 refusal-of_same L M p c run NoMemory same is = tt

@@ -18,20 +18,13 @@ use Rattle.cover_quotient.proofs.next_answers.AnswerLaws.{next_answers_are_answe
 use Rattle.cover_quotient.proofs.stages.FittedSteps.{next_answers_are_fitted, fitted_answers_stay}
 use Rattle.derivation_log.specs.Certificates.{StepLines}
 use Rattle.derivation_log.specs.CertificateForms.{are_tail_lines}
-use Rattle.derivation_log.specs.CertificateRuns.{kept_in, next_where, next_by}
+use Rattle.derivation_log.specs.CertificateRuns.{kept_in, next_by}
 use Rattle.derivation_log.specs.CertificateParts.{CertificateKind, AreSumsOfRows, GiveAnswer}
+use Rattle.derivation_log.proofs.BuiltRuns.{next_where-kept, next_where-none}
 use Rattle.valid_certificates.specs.LineBases.{HasBasis}
 use Rattle.valid_certificates.specs.ReachedAnswers.{IsSoundKind, AreTrusted, IsReached}
 use Rattle.valid_certificates.proofs.LineBases.{lines_have_bases}
 use Rattle.valid_certificates.proofs.SourceRows.{rows_of_sources_are_trusted}
-
-next_where-kept : (ts : List ℕ) (A N : Answer) → ts ≢ [] → next_where ts A N ≡ N
-next_where-kept [] A N some = absurd (some refl)
-next_where-kept (t ∷ ts) A N some = refl
-
-next_where-none : (ts : List ℕ) (A N : Answer) → ts ≡ [] → next_where ts A N ≡ A
-next_where-none [] A N none = refl
-next_where-none (t ∷ ts) A N none = cc
 
 some-kept : (ts : List ℕ) → ts ≢ [] → 1 ≤ length ts
 some-kept [] some = absurd (some refl)

@@ -12,13 +12,14 @@ use Rattle.derivation_log.specs.declared.source.Run.TheVariants.{Whole}
 use Rattle.derivation_log.specs.Certificates.{Certificate, presentation_of}
 use Rattle.derivation_log.specs.CertificateParts.{CertificateKind, full_kind, built_by}
 use Rattle.derivation_log.specs.ValidParts.{KeepsRun, KeepsAll}
+use Rattle.derivation_log.proofs.PassedRuns.{presentation_of-names}
 use Rattle.derivation_log.proofs.JudgedOverlaps.{overlaps-consistent}
 use Rattle.derivation_log.proofs.ValidParts.{valid-keeps}
 use Rattle.valid_certificates.specs.ReachedAnswers.{HasForm, IsSoundKind, IsHandedOn}
 use Rattle.valid_certificates.specs.ValidRuns.{IsBuilt}
 use Rattle.valid_certificates.specs.ValidityLaws.{StepsReachAnswers, RunsBuildAnswers, RunsAreUniversal, RunsAreConsistent}
 use Rattle.valid_certificates.specs.ValidityLaws.{ValidCertificatesKill, ValidCertificatesAreLargest, ValidCertificatesAreCanonical}
-use Rattle.valid_certificates.proofs.ValidRuns.{names-of, answers-after, run-builds}
+use Rattle.valid_certificates.proofs.ValidRuns.{answers-after, run-builds}
 use Rattle.valid_certificates.proofs.KilledRelators.{IsNamed, answer-kills}
 use Rattle.valid_certificates.proofs.FullRuns.{full-sound, Nothing, full-handed, run-canonical}
 
@@ -36,7 +37,7 @@ module _ (kind : CertificateKind) (sound : IsSoundKind kind) (Holds : Answer →
 
     -- an answer with the names of the presentation
     named : IsNamed c (built_by kind.cover c run)
-    named = record { answer = builds.fitted.answer; names = builds.fitted.names ∙ names-of c run }
+    named = record { answer = builds.fitted.answer; names = builds.fitted.names ∙ presentation_of-names c run }
 
   module _ (keeps : KeepsAll kind c) where
     pub kills : Kills c.presentation c.answer

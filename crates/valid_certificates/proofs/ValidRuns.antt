@@ -24,15 +24,11 @@ use Rattle.derivation_log.specs.CertificateForms.{are_sources_in, are_tail_lines
 use Rattle.derivation_log.specs.CertificateRuns.{kept_in, answer_after, cover_at, kept_at}
 use Rattle.derivation_log.specs.CertificateParts.{CertificateKind, IsNotExtra, AreSumsOfRows, GiveAnswer, built_by}
 use Rattle.derivation_log.specs.ValidParts.{KeepsRun}
+use Rattle.derivation_log.proofs.PassedRuns.{presentation_of-names}
 use Rattle.valid_certificates.specs.ReachedAnswers.{HasForm, IsSoundKind, IsReached, IsHandedOn}
 use Rattle.valid_certificates.specs.ValidRuns.{KeepTailsBefore, IsAnswerAfter, IsBuilt}
 use Rattle.valid_certificates.proofs.PassedStep.{PassesOver, step_basis, step-over, kept_allowed, step-count, step-makes, step-reaches}
 use Rattle.valid_certificates.proofs.PassedStep.{step-is_next, step-stays, step-fitted}
-
--- both presentations have the same names, and words of them
-pub names-of : (c : Certificate) (run : Run) → (presentation_of c run).names ≡ c.presentation.names
-names-of c Iterated = refl
-names-of c Whole = refl
 
 pub words-of : (c : Certificate) (run : Run) → IsLPresentation c.presentation → IsLPresentation (presentation_of c run)
 words-of c Iterated is = record {
@@ -96,10 +92,10 @@ module _ (kind : CertificateKind) (sound : IsSoundKind kind) (Holds : Answer →
   start : IsReached L c.prime 0 (after 0)
   start =
       let stage = trivial_answers_are_stages L c.prime form.offered
-      (subst (λ (ns : List (List ℕ)). 1 ≤ length ns) (sym (names-of c run)) form.some_name)
-      (subst (λ (ns : List (List ℕ)). length ns ≤ max_names) (sym (names-of c run)) form.name_limit)
+      (subst (λ (ns : List (List ℕ)). 1 ≤ length ns) (sym (presentation_of-names c run)) form.some_name)
+      (subst (λ (ns : List (List ℕ)). length ns ≤ max_names) (sym (presentation_of-names c run)) form.name_limit)
       words.distinct in
-      subst (IsReached L c.prime 0) (ap (trivial_answer c.prime) (names-of c run))
+      subst (IsReached L c.prime 0) (ap (trivial_answer c.prime) (presentation_of-names c run))
       (record {
         fitted = stages_are_fitted L c.prime 0 (trivial_answer c.prime L.names) stage;
         shows = refl;

@@ -26,10 +26,10 @@ use std::alloc::Global;
 
 /// The answer that a text is, or the line of its first fault, counted from 1.
 ///
-/// The text is that which `text` writes of an answer: no other text of it is read. Lines are judged one by one, and the fault is at the first
-/// that hasn't the form of a line in its place; for bytes that end early it is behind the last whole line. What only all lines together break
-/// is a fault at the last line. `NoMemory` tells nothing about the bytes. There may be at most 2^32 - 2 bytes, so that the numbers of lines
-/// are in range.
+/// The text is that which `text` writes of an answer: no other text of it is read. Lines are judged one by one, and the fault is at the
+/// first that hasn't the form of a line in its place; for bytes that end early it is behind the last whole line. What only all lines
+/// together break is a fault at the last line. `NoMemory` tells nothing about the bytes. There may be at most 2^32 - 2 bytes, so that the
+/// numbers of lines are in range.
 pub fn read_answer(alloc: Global, bytes: &[u8]) -> Result<Answer, AnswerFault>
     requires { length bytes.now < 2 ^ 32 - 1 }
     ensures ok { IfOk result (λ a. bytes.now ≡ answer_text a) }

@@ -27,8 +27,8 @@ use std::alloc::Global;
 /// The text is that which `write` writes of a certificate of version 1: no other text of it is read. Whether the certificate is valid is
 /// another matter. Lines are judged one by one, and the fault is at the first that hasn't the form of a line in its place; for bytes that
 /// end early it is behind the last whole line. What only all lines of the answer together break, and an answer whose prime or whose names
-/// aren't those of the certificate, is a fault at the last line, the answer's end. `NoMemory` tells nothing about the bytes. There may be at
-/// most 2^32 - 2 bytes, so that the numbers of lines are in range.
+/// aren't those of the certificate, is a fault at the last line, the answer's end. `NoMemory` tells nothing about the bytes. There may be
+/// at most 2^32 - 2 bytes, so that the numbers of lines are in range.
 pub fn read(alloc: Global, bytes: &[u8]) -> Result<Cert, CertFault>
     requires { length bytes.now < 2 ^ 32 - 1 }
     ensures text { IfOk result (λ c. bytes.now ≡ certificate_text c) }

@@ -9,5 +9,5 @@ mod light_overlaps;
 mod room;
 mod sources;
 
-pub use light_covers::{carries, light_cover};
+pub use light_covers::{is_light, light_cover};
 pub use light_overlaps::light_tests;

@@ -23,7 +23,7 @@ pub fn light_cover(alloc: Global, answer: &Answer) -> Result<Cover, NoMemory>
 
 /// Whether a relation or an image has room for a generator of the next class. It is false exactly for a commutator of generators
 /// whose weights have a sum above the class and one. It takes no memory.
-pub fn carries(answer: &Answer, t: Definition) -> bool
+pub fn is_light(answer: &Answer, t: Definition) -> bool
     requires { IsSource answer.now (definition_of t) }
     ensures { result ≡ is_light answer.now (definition_of t) }
 {

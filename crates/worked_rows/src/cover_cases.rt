@@ -23,7 +23,7 @@ use free_words::Word;
 use p_cover::{Cover, Images, cover_of, full_cover, want_order};
 use pc_presentation::{Answer, Definition, Overlap, Relation};
 use std::alloc::Global;
-use tails_by_weight::{carries, light_cover, light_tests};
+use tails_by_weight::{is_light, light_cover, light_tests};
 
 #[derive(Drop)]
 pub(crate) struct CoverCases {
@@ -181,8 +181,8 @@ fn show_carries(answer: &Answer, source: Definition, out: &mut String) -> Result
     if !is_source(answer, source) {
         bail!("no relation or image of the answer");
     }
-    let carries = carries(answer, source);
-    writeln!(out, "    {carries}")?;
+    let light = is_light(answer, source);
+    writeln!(out, "    {light}")?;
     Ok(())
 }
 

@@ -16,9 +16,11 @@ use Rattle.answer_text.specs.AnswerPlaces.HasForm.{prime, class, rank, order, im
 use Rattle.answer_text.specs.AnswerFaults.{IsWhole, FaultsAreNoAnswers}
 use Rattle.answer_text.specs.BodyRead.{Leads}
 use Rattle.answer_text.proofs.OneText.{last-small}
-use Rattle.answer_text.proofs.lines.LineLeads.{AreFit, ArePowers, AreRow, AreRows, IsFit, IsWhole-Leads, Leads-append, generators-lead, powers-reach, rows-reach}
+use Rattle.answer_text.proofs.lines.LineLeads.{AreFit, ArePowers, AreRow, AreRows, IsFit, IsWhole-Leads, Leads-append, generators-lead}
+use Rattle.answer_text.proofs.lines.LineLeads.{powers-reach, rows-reach}
 
-images-lead : (p n m : ℕ) (names es : List (List ℕ)) → IsScale p n → AreNames names → AreNormal p n es → Leads (in_body p n zero m) (image_lines names es ++ codes "end" ∷ []) at_end
+images-lead : (p n m : ℕ) (names es : List (List ℕ)) → IsScale p n → AreNames names → AreNormal p n es
+    → Leads (in_body p n zero m) (image_lines names es ++ codes "end" ∷ []) at_end
 images-lead p n m [] es z a b = (at_end, last p n m, refl)
 images-lead p n m (name ∷ names) [] z a b = (at_end, last p n m, refl)
 images-lead p n m (name ∷ names) (e ∷ es) z a b =
@@ -28,7 +30,8 @@ images-lead p n m (name ∷ names) (e ∷ es) z a b =
       images-lead p n 1000000 names es z a.1 b.1,
     )
 
-ArePowers-each : (p n k : ℕ) (es : List (List ℕ)) → ((i : ℕ) → i < length es → (suc (k + i) + length (get_or es i []) ≡ n) × AllBelow p (get_or es i [])) → ArePowers p n k es
+ArePowers-each : (p n k : ℕ) (es : List (List ℕ))
+    → ((i : ℕ) → i < length es → (suc (k + i) + length (get_or es i []) ≡ n) × AllBelow p (get_or es i [])) → ArePowers p n k es
 ArePowers-each p n k [] h = tt
 ArePowers-each p n k (e ∷ es) h = (
   omega (arith, (h 0 (omega arith)).0),
@@ -36,7 +39,8 @@ ArePowers-each p n k (e ∷ es) h = (
   ArePowers-each p n (suc k) es (λ i l. (omega (arith, (h (suc i) (omega arith)).0), (h (suc i) (omega arith)).1)),
 )
 
-AreRow-each : (p n j : ℕ) (es : List (List ℕ)) → ((i : ℕ) → i < length es → (j + length (get_or es i []) ≡ n) × AllBelow p (get_or es i [])) → AreRow p n j es
+AreRow-each : (p n j : ℕ) (es : List (List ℕ)) → ((i : ℕ) → i < length es → (j + length (get_or es i []) ≡ n) × AllBelow p (get_or es i []))
+    → AreRow p n j es
 AreRow-each p n j [] h = tt
 AreRow-each p n j (e ∷ es) h = ((h 0 (omega arith)).0, (h 0 (omega arith)).1, AreRow-each p n j es (λ i l. h (suc i) (omega arith)))
 
@@ -60,7 +64,8 @@ nth-name [] i a h = absurd (omega arith)
 nth-name (n ∷ ns) zero a h = a.0
 nth-name (n ∷ ns) (suc i) a h = nth-name ns i a.1 (omega arith)
 
-fit : (A : Answer) (k : ℕ) (d : Definition) → k < A.presentation.rank → AreNames A.names → length A.images ≡ length A.names → HasDefinition A k d → IsFit A.presentation.rank A.names d
+fit : (A : Answer) (k : ℕ) (d : Definition) → k < A.presentation.rank → AreNames A.names → length A.images ≡ length A.names
+    → HasDefinition A k d → IsFit A.presentation.rank A.names d
 fit A k (image zero) l names same h = absurd h
 fit A k (image (suc i)) l names same h = nth-name A.names i names (omega (arith, h.1))
 fit A k (commutator zero i) l names same h = absurd h
@@ -69,12 +74,14 @@ fit A k (commutator (suc j) (suc i)) l names same h = (omega arith, omega (arith
 fit A k (power zero) l names same h = absurd h
 fit A k (power (suc j)) l names same h = (omega arith, omega (arith, h.1))
 
-AreFit-each : (n : ℕ) (names : List (List ℕ)) (ds : List Definition) → ((k : ℕ) → k < length ds → IsFit n names (get_or ds k (image 0))) → AreFit n names ds
+AreFit-each : (n : ℕ) (names : List (List ℕ)) (ds : List Definition) → ((k : ℕ) → k < length ds → IsFit n names (get_or ds k (image 0)))
+    → AreFit n names ds
 AreFit-each n names [] h = tt
 AreFit-each n names (d ∷ ds) h = (h 0 (omega arith), AreFit-each n names ds (λ k l. h (suc k) (omega arith)))
 
 body-lead : (A : Answer) → IsWritable A → Leads (in_body A.presentation.prime A.presentation.rank zero 0)
-    (power_lines A.presentation.prime 0 A.presentation.powers ++ (commutator_lines 0 A.presentation.commutators ++ (image_lines A.names A.images ++ codes "end" ∷ []))) at_end
+    (power_lines A.presentation.prime 0 A.presentation.powers
+    ++ (commutator_lines 0 A.presentation.commutators ++ (image_lines A.names A.images ++ codes "end" ∷ []))) at_end
 body-lead A w =
     let p : ℕ = A.presentation.prime in
     let n : ℕ = A.presentation.rank in
@@ -84,13 +91,19 @@ body-lead A w =
     let power_count : length A.presentation.powers ≡ n = is.power_count in
     let row_count : length A.presentation.commutators ≡ n = is.commutator_count in
     let powers = powers-reach p n 0 0 A.presentation.powers z (omega arith) (omega arith)
-    (ArePowers-each p n 0 A.presentation.powers (λ i l. let side = is.power_sides i (omega arith) in (omega (arith, side.count), side.below))) in
+    (ArePowers-each p n 0 A.presentation.powers
+    (λ i l. let side = is.power_sides i (omega arith) in (omega (arith, side.count), side.below))) in
     let rows = rows-reach p n 0 powers.0 A.presentation.commutators z (omega (arith, powers.1)) (omega arith)
     (AreRows-each p n 0 A.presentation.commutators (λ j l.
-    let long : length (get_or A.presentation.commutators j []) ≡ j = is.commutator_counts j (omega arith) in
-    (omega arith, AreRow-each p n (suc (0 + j)) (get_or A.presentation.commutators j []) (λ i m. let side = is.commutator_sides j i (omega arith) (omega arith) in (omega (arith, side.count), side.below))))) in
-    Leads-append (in_body p n zero 0) (in_body p n zero powers.0) at_end (power_lines p 0 A.presentation.powers) (commutator_lines 0 A.presentation.commutators ++ (image_lines A.names A.images ++ codes "end" ∷ [])) powers.2
-    (Leads-append (in_body p n zero powers.0) (in_body p n zero rows.0) at_end (commutator_lines 0 A.presentation.commutators) (image_lines A.names A.images ++ codes "end" ∷ []) rows.2
+    let long : length (get_or A.presentation.commutators j []) ≡ j = is.commutator_counts j (omega arith) in (
+      omega arith,
+      AreRow-each p n (suc (0 + j)) (get_or A.presentation.commutators j [])
+          (λ i m. let side = is.commutator_sides j i (omega arith) (omega arith) in (omega (arith, side.count), side.below)),
+    ))) in
+    Leads-append (in_body p n zero 0) (in_body p n zero powers.0) at_end (power_lines p 0 A.presentation.powers)
+    (commutator_lines 0 A.presentation.commutators ++ (image_lines A.names A.images ++ codes "end" ∷ [])) powers.2
+    (Leads-append (in_body p n zero powers.0) (in_body p n zero rows.0) at_end (commutator_lines 0 A.presentation.commutators)
+    (image_lines A.names A.images ++ codes "end" ∷ []) rows.2
     (images-lead p n rows.0 A.names A.images z w.names w.answer.images))
 
 answer-leads : (A : Answer) → IsWritable A → Leads for_prime (answer_lines A) at_end
@@ -102,7 +115,8 @@ answer-leads A w =
     let count : length A.weights ≡ n = w.answer.weight_count in
     let definition_count : length A.definitions ≡ n = w.answer.definition_count in
     let fits : AreFit n A.names A.definitions =
-    AreFit-each n A.names A.definitions (λ k l. fit A k (definition_at A k) (omega arith) w.names w.answer.image_count (w.answer.definitions k (omega arith))) in
+    AreFit-each n A.names A.definitions
+    (λ k l. fit A k (definition_at A k) (omega arith) w.names w.answer.image_count (w.answer.definitions k (omega arith))) in
     let gens = generators-lead p n A.names 0 1 A.weights A.definitions z (omega arith) (omega arith) (omega arith) w.answer.weights fits in
     let gens_from : Leads (in_body p n n 0) (generator_lines p A.names 0 A.weights A.definitions) (in_body p n zero 0) =
     subst (λ (x : ℕ). Leads (in_body p n x 0) (generator_lines p A.names 0 A.weights A.definitions) (in_body p n zero 0)) count gens in (
@@ -118,7 +132,9 @@ answer-leads A w =
             in_body p n n 0,
             order p n z,
             Leads-append (in_body p n n 0) (in_body p n zero 0) at_end (generator_lines p A.names 0 A.weights A.definitions)
-                (power_lines p 0 A.presentation.powers ++ (commutator_lines 0 A.presentation.commutators ++ (image_lines A.names A.images ++ codes "end" ∷ []))) gens_from (body-lead A w),
+                (power_lines p 0 A.presentation.powers
+                ++ (commutator_lines 0 A.presentation.commutators ++ (image_lines A.names A.images ++ codes "end" ∷ []))) gens_from
+                (body-lead A w),
           ),
         ),
       ),
@@ -131,5 +147,6 @@ IsWhole-answer_text A w = IsWhole-Leads for_prime (answer_lines A) (answer-leads
 pub faults_are_no_answers : FaultsAreNoAnswers
 faults_are_no_answers bytes zero f a = absurd f
 faults_are_no_answers bytes (suc k) (inl bad) a =
-    bad.not_whole (length (answer_lines a.0)) (subst (λ (t : List ℕ). IsWhole for_prime t (length (answer_lines a.0))) (sym a.2) (IsWhole-answer_text a.0 a.1))
+    bad.not_whole (length (answer_lines a.0))
+    (subst (λ (t : List ℕ). IsWhole for_prime t (length (answer_lines a.0))) (sym a.2) (IsWhole-answer_text a.0 a.1))
 faults_are_no_answers bytes (suc k) (inr other) a = other.1 a

@@ -1,4 +1,5 @@
--- Worked texts: those of the dihedral group of order 8, the quaternion group and the cyclic group of order 9, with a second generator that is the inverse of the first.
+-- Worked texts: those of the dihedral group of order 8, the quaternion group and the cyclic group of order 9, with a second generator that
+-- is the inverse of the first.
 use Rattle.std.proofs.Common.{◌≡◌, codes, refl}
 use Rattle.std.specs.Fmt.{digits}
 use Rattle.serde_json.proofs.OnLiterals.{serde_json_on_literals}

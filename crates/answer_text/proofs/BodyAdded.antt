@@ -1,5 +1,6 @@
 -- A line that adds a relation or an image is one line more of what was read.
-use Rattle.std.proofs.Common.{◌≡◌, ◌<◌, ◌≤◌, ◌+◌, ℕ, List, [], ◌∷◌, ◌++◌, length, refl, ap, ap₂, sym, subst, ◌∙◌, inl, inr, arith, append_assoc, append-nil, length-append}
+use Rattle.std.proofs.Common.{◌≡◌, ◌<◌, ◌≤◌, ◌+◌, ℕ, List, [], ◌∷◌, ◌++◌, length, refl, ap, ap₂, sym, subst, ◌∙◌, inl, inr, arith}
+use Rattle.std.proofs.Common.{append_assoc, append-nil, length-append}
 use Rattle.std.specs.Prelude.{None}
 use Rattle.std.proofs.lemmas.List.Elements.{All-push}
 use Rattle.pq_base.specs.Limits.{max_rank}
@@ -34,7 +35,10 @@ IsDraft-behind p n place D h d = record {
   rank = d.rank;
   sides = d.sides;
   flags = d.flags;
-  blank = (PowersBlank-later 0 place behind_relations D.built.presentation.powers h d.blank.0, RowsBlank-later 0 place behind_relations D.built.presentation.commutators h d.blank.1);
+  blank = (
+    PowersBlank-later 0 place behind_relations D.built.presentation.powers h d.blank.0,
+    RowsBlank-later 0 place behind_relations D.built.presentation.commutators h d.blank.1,
+  );
   given = λ r is was. let low : order_of r ≤ place = d.given r is was in omega arith;
 }
 
@@ -49,7 +53,8 @@ word_lines-push [] (v ∷ ws) name w h = absurd (omega arith)
 word_lines-push (n ∷ ns) [] name w h = absurd (omega arith)
 word_lines-push (n ∷ ns) (v ∷ ws) name w h = ap (λ (x : List (List ℕ)). word_line n v ∷ x) (word_lines-push ns ws name w (omega arith))
 
-so_far-same : (S : SoFar) (D : Draft) (place : ℕ) (ns : List (List ℕ)) (ws : List (List Syllable)) → S.draft ≡ D → S.place ≡ place → S.names ≡ ns → S.words ≡ ws
+so_far-same : (S : SoFar) (D : Draft) (place : ℕ) (ns : List (List ℕ)) (ws : List (List Syllable)) → S.draft ≡ D → S.place ≡ place
+    → S.names ≡ ns → S.words ≡ ws
     → so_far D place ns ws ≡ S
 so_far-same S D place ns ws d m n w =
     sym (ap (λ (x : Draft). so_far x S.place S.names S.words) d ∙ ap (λ (x : ℕ). so_far D x S.names S.words) m
@@ -60,25 +65,32 @@ record IsNextLine (p n : ℕ) (old new : SoFar) (line : List ℕ) : Type 0 where
   lines : body_lines p new ≡ body_lines p old ++ line ∷ []
   form : HasForm (in_body p n 0 old.place) line (in_body p n 0 new.place)
 
-text-next : (p n : ℕ) (old new : SoFar) (line text rest more : List ℕ) → IsNextLine p n old new line → text ≡ text_of_lines (body_lines p old) ++ rest → rest ≡ line ++ 10 ∷ more
+text-next : (p n : ℕ) (old new : SoFar) (line text rest more : List ℕ) → IsNextLine p n old new line
+    → text ≡ text_of_lines (body_lines p old) ++ rest → rest ≡ line ++ 10 ∷ more
     → text ≡ text_of_lines (body_lines p new) ++ more
 text-next p n old new line text rest more next e cut =
     subst (λ (x : List (List ℕ)). text ≡ text_of_lines x ++ more) (sym next.lines) (text-push (body_lines p old) line text rest more e cut)
 
-count-next : (p n number after : ℕ) (old new : SoFar) (line : List ℕ) → IsNextLine p n old new line → number ≡ n + 5 + length (body_lines p old) → after ≡ number + 1
+count-next : (p n number after : ℕ) (old new : SoFar) (line : List ℕ) → IsNextLine p n old new line
+    → number ≡ n + 5 + length (body_lines p old) → after ≡ number + 1
     → after ≡ n + 5 + length (body_lines p new)
 count-next p n number after old new line next e one =
-    let long : length (body_lines p new) ≡ length (body_lines p old) + 1 = ap length next.lines ∙ length-append (body_lines p old) (line ∷ []) in
+    let long : length (body_lines p new) ≡ length (body_lines p old) + 1 =
+    ap length next.lines ∙ length-append (body_lines p old) (line ∷ []) in
     omega arith
 
-leads-next : (p n : ℕ) (old new : SoFar) (line : List ℕ) → IsNextLine p n old new line → Leads (in_body p n 0 0) (body_lines p old) (in_body p n 0 old.place)
+leads-next : (p n : ℕ) (old new : SoFar) (line : List ℕ) → IsNextLine p n old new line
+    → Leads (in_body p n 0 0) (body_lines p old) (in_body p n 0 old.place)
     → Leads (in_body p n 0 0) (body_lines p new) (in_body p n 0 new.place)
 leads-next p n old new line next lead =
     subst (λ (x : List (List ℕ)). Leads (in_body p n 0 0) x (in_body p n 0 new.place)) (sym next.lines)
-    (Leads-append (in_body p n 0 0) (in_body p n 0 old.place) (in_body p n 0 new.place) (body_lines p old) (line ∷ []) lead (in_body p n 0 new.place, next.form, refl))
+    (Leads-append (in_body p n 0 0) (in_body p n 0 old.place) (in_body p n 0 new.place) (body_lines p old) (line ∷ []) lead
+    (in_body p n 0 new.place, next.form, refl))
 
-relation-read : (p n : ℕ) (ws text rest more : List ℕ) (number after : ℕ) (S : SoFar) (r : Relation) (w : List Syllable) → IsBodyRead p n ws text rest number S → IsNext p n S.place r w
-    → rest ≡ relation_line p r w ++ 10 ∷ more → after ≡ number + 1 → IsBodyRead p n ws text more after (so_far (extended S.draft r w None) (order_of r) S.names S.words)
+relation-read : (p n : ℕ) (ws text rest more : List ℕ) (number after : ℕ) (S : SoFar) (r : Relation) (w : List Syllable)
+    → IsBodyRead p n ws text rest number S → IsNext p n S.place r w
+    → rest ≡ relation_line p r w ++ 10 ∷ more → after ≡ number + 1
+    → IsBodyRead p n ws text more after (so_far (extended S.draft r w None) (order_of r) S.names S.words)
 relation-read p n ws text rest more number after S r w b next cut one =
     let new : SoFar = so_far (extended S.draft r w None) (order_of r) S.names S.words in
     let added = draft-added p n S.place S.draft r w b.draft next in
@@ -87,7 +99,8 @@ relation-read p n ws text rest more number after S r w b next cut one =
     let none : S.names ≡ [] = b.relations_first (omega arith) in
     let no_lines : word_lines S.names S.words ≡ [] = ap (λ (x : List (List ℕ)). word_lines x S.words) none in
     let line : IsNextLine p n S new (relation_line p r w) = record {
-      lines = ap₂ (λ (s t : List (List ℕ)). s ++ t) added.1 no_lines ∙ append-nil (all_lines p S.draft.built.presentation ++ relation_line p r w ∷ [])
+      lines = ap₂ (λ (s t : List (List ℕ)). s ++ t) added.1 no_lines
+          ∙ append-nil (all_lines p S.draft.built.presentation ++ relation_line p r w ∷ [])
           ∙ ap (λ (x : List (List ℕ)). x ++ relation_line p r w ∷ []) (sym (append-nil (all_lines p S.draft.built.presentation))
           ∙ ap (λ (x : List (List ℕ)). all_lines p S.draft.built.presentation ++ x) (sym no_lines));
       form = relation p n S.place r w b.draft.scale next.relation rises next.some next.word;
@@ -106,8 +119,10 @@ relation-read p n ws text rest more number after S r w b next cut one =
       leads = leads-next p n S new (relation_line p r w) line b.leads;
     }
 
-image-read : (p n : ℕ) (ws text rest more : List ℕ) (number after : ℕ) (S : SoFar) (name : List ℕ) (w : List Syllable) → IsBodyRead p n ws text rest number S → IsName name → AreSyllables p n 0 w
-    → rest ≡ word_line name w ++ 10 ∷ more → after ≡ number + 1 → IsBodyRead p n ws text more after (so_far S.draft behind_relations (S.names ++ name ∷ []) (S.words ++ w ∷ []))
+image-read : (p n : ℕ) (ws text rest more : List ℕ) (number after : ℕ) (S : SoFar) (name : List ℕ) (w : List Syllable)
+    → IsBodyRead p n ws text rest number S → IsName name → AreSyllables p n 0 w
+    → rest ≡ word_line name w ++ 10 ∷ more → after ≡ number + 1
+    → IsBodyRead p n ws text more after (so_far S.draft behind_relations (S.names ++ name ∷ []) (S.words ++ w ∷ []))
 image-read p n ws text rest more number after S name w b is a cut one =
     let new : SoFar = so_far S.draft behind_relations (S.names ++ name ∷ []) (S.words ++ w ∷ []) in
     let same : length S.words ≡ length S.names = b.count in
@@ -132,17 +147,23 @@ image-read p n ws text rest more number after S name w b is a cut one =
       leads = leads-next p n S new (word_line name w) line b.leads;
     }
 
-pub IsBodyRead-next : (p n : ℕ) (ws text rest more line : List ℕ) (number after : ℕ) (old new : SoFar) → IsBodyRead p n ws text rest number old → Adds p n old new line → rest ≡ line ++ 10 ∷ more
+pub IsBodyRead-next : (p n : ℕ) (ws text rest more line : List ℕ) (number after : ℕ) (old new : SoFar)
+    → IsBodyRead p n ws text rest number old → Adds p n old new line → rest ≡ line ++ 10 ∷ more
     → after ≡ number + 1 → IsBodyRead p n ws text more after new
 IsBodyRead-next p n ws text rest more line number after old new b (inl h) cut one =
     let r : Relation = h.0 in
     let w : List Syllable = h.1 in
     let adds : AddsRelation p n old new line r w = h.2 in
-    subst (λ (x : SoFar). IsBodyRead p n ws text more after x) (so_far-same new (extended old.draft r w None) (order_of r) old.names old.words adds.draft_is adds.place_is adds.names_are adds.words_are)
+    subst (λ (x : SoFar). IsBodyRead p n ws text more after x)
+    (so_far-same new (extended old.draft r w None) (order_of r) old.names old.words adds.draft_is adds.place_is adds.names_are
+    adds.words_are)
     (relation-read p n ws text rest more number after old r w b adds.next (cut ∙ ap (λ (x : List ℕ). x ++ 10 ∷ more) adds.line_is) one)
 IsBodyRead-next p n ws text rest more line number after old new b (inr h) cut one =
     let name : List ℕ = h.0 in
     let w : List Syllable = h.1 in
     let adds : AddsImage p n old new line name w = h.2 in
-    subst (λ (x : SoFar). IsBodyRead p n ws text more after x) (so_far-same new old.draft behind_relations (old.names ++ name ∷ []) (old.words ++ w ∷ []) adds.draft_is adds.place_is adds.names_are adds.words_are)
-    (image-read p n ws text rest more number after old name w b adds.name_is adds.word_is (cut ∙ ap (λ (x : List ℕ). x ++ 10 ∷ more) adds.line_is) one)
+    subst (λ (x : SoFar). IsBodyRead p n ws text more after x)
+    (so_far-same new old.draft behind_relations (old.names ++ name ∷ [])
+    (old.words ++ w ∷ []) adds.draft_is adds.place_is adds.names_are adds.words_are)
+    (image-read p n ws text rest more number after old name w b adds.name_is adds.word_is
+    (cut ∙ ap (λ (x : List ℕ). x ++ 10 ∷ more) adds.line_is) one)

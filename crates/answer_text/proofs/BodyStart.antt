@@ -1,5 +1,6 @@
 -- Before a relation is read, nothing is.
-use Rattle.std.proofs.Common.{◌≡◌, ◌≤◌, ◌+◌, ◌-◌, ◌*◌, ℕ, zero, suc, true, false, List, [], ◌++◌, length, replicate, refl, ap, ap₂, sym, subst, ◌∙◌, arith}
+use Rattle.std.proofs.Common.{◌≡◌, ◌≤◌, ◌+◌, ◌-◌, ◌*◌, ℕ, zero, suc, true, false, List, [], ◌++◌, length, replicate, refl, ap, ap₂, sym}
+use Rattle.std.proofs.Common.{subst, ◌∙◌, arith}
 use Rattle.std.proofs.lemmas.List.Elements.{All-nil}
 use Rattle.pq_base.specs.Elementary.{elementary, zeros, zero_powers, zero_rows}
 use Rattle.pq_base.specs.Lines.{text_of_lines}
@@ -43,16 +44,21 @@ IsDraft-empty p n ws z one long =
       flags = subst (λ (x : ℕ). HasShape x (empty_draft p ws 0).given) long (per_relation-shape (length ws) (λ _. false));
       blank = (PowersBlank-zero 0 (length ws), RowsBlank-zero 0 0 (length ws));
       given = λ r is was.
-          let no : false ≡ true = sym (entry_at-per_relation (length ws) (λ _. false) false r (subst (λ (x : ℕ). IsRelation x r) (sym long) is)) ∙ was in
+          let no : false ≡ true =
+          sym (entry_at-per_relation (length ws) (λ _. false) false r (subst (λ (x : ℕ). IsRelation x r) (sym long) is)) ∙ was in
           cc;
     }
 
 all_lines-empty : (p n : ℕ) → all_lines p (elementary p n) ≡ []
-all_lines-empty p n = ap₂ (λ (s t : List (List ℕ)). s ++ t) (power_lines-blank p 0 (zero_powers n) (PowersBlank-zero 0 n)) (rows-blank 0 0 (zero_rows 0 n) (omega arith) (RowsBlank-zero 0 0 n))
+all_lines-empty p n =
+    ap₂ (λ (s t : List (List ℕ)). s ++ t) (power_lines-blank p 0 (zero_powers n) (PowersBlank-zero 0 n))
+    (rows-blank 0 0 (zero_rows 0 n) (omega arith) (RowsBlank-zero 0 0 n))
 
-pub IsBodyRead-nothing : (p n : ℕ) (ws text : List ℕ) → IsScale p n → 2 ≤ p → length ws ≡ n → IsBodyRead p n ws text text (n + 5) (so_far (empty_draft p ws 0) 0 [] [])
+pub IsBodyRead-nothing : (p n : ℕ) (ws text : List ℕ) → IsScale p n → 2 ≤ p → length ws ≡ n
+    → IsBodyRead p n ws text text (n + 5) (so_far (empty_draft p ws 0) 0 [] [])
 IsBodyRead-nothing p n ws text z one long =
-    let none : [] ≡ body_lines p (so_far (empty_draft p ws 0) 0 [] []) = sym (ap (λ (x : List (List ℕ)). x ++ []) (all_lines-empty p (length ws))) in
+    let none : [] ≡ body_lines p (so_far (empty_draft p ws 0) 0 [] []) =
+    sym (ap (λ (x : List (List ℕ)). x ++ []) (all_lines-empty p (length ws))) in
     record {
       draft = IsDraft-empty p n ws z one long;
       weights = refl;

@@ -26,7 +26,8 @@ use Rattle.pq_base.specs.Name.{IsName}
 use Rattle.pq_base.proofs.PrimeLaws.{offered-small}
 use Rattle.answer_text.proofs.RelationAdded.{all_lines, IsBlankBehind, relation-added}
 
-pub IsAccepted-next : (p n place : ℕ) (D : Draft) (r : Relation) (w : List Syllable) → IsDraft p n D place → IsNext p n place r w → IsAccepted D r w None
+pub IsAccepted-next : (p n place : ℕ) (D : Draft) (r : Relation) (w : List Syllable) → IsDraft p n D place → IsNext p n place r w
+    → IsAccepted D r w None
 IsAccepted-next p n place D r w draft next =
     let from_start : AreSyllables p n 0 w = AreSyllables-weaken p n 0 (side_start r) w (omega arith) next.word in
     record {
@@ -43,7 +44,8 @@ IsAccepted-next p n place D r w draft next =
     }
 
 -- so only want of memory refuses it
-pub refused-next : (D : Draft) (r : Relation) (w : List Syllable) (e : PcpRefusal) → IsAccepted D r w None → IsRefused D r w None e → e ≡ NoMemory
+pub refused-next : (D : Draft) (r : Relation) (w : List Syllable) (e : PcpRefusal) → IsAccepted D r w None → IsRefused D r w None e
+    → e ≡ NoMemory
 refused-next D r w OutOfRange a h = absurd (h a.in_range)
 refused-next D r w Repeated a h = absurd (a.new h.1)
 refused-next D r w NotNormal a h = absurd (h.2 a.normal)
@@ -51,11 +53,13 @@ refused-next D r w NotLater a h = absurd (h.3 a.later)
 refused-next D r w NoMemory a h = refl
 
 pub draft-added : (p n place : ℕ) (D : Draft) (r : Relation) (w : List Syllable) → IsDraft p n D place → IsNext p n place r w
-    → IsDraft p n (extended D r w None) (order_of r) × (all_lines p (extended D r w None).built.presentation ≡ all_lines p D.built.presentation ++ relation_line p r w ∷ [])
+    → IsDraft p n (extended D r w None) (order_of r)
+    × (all_lines p (extended D r w None).built.presentation ≡ all_lines p D.built.presentation ++ relation_line p r w ∷ [])
 draft-added p n place D r w draft next =
     let P : Presentation = D.built.presentation in
     let E : List ℕ = spread (P.rank - side_start r) (side_start r) w in
-    let side : spread (n - side_start r) (side_start r) w ≡ E = ap (λ (x : ℕ). spread (x - side_start r) (side_start r) w) (sym draft.rank) in
+    let side : spread (n - side_start r) (side_start r) w ≡ E =
+    ap (λ (x : ℕ). spread (x - side_start r) (side_start r) w) (sym draft.rank) in
     let added = relation-added p n place P r w draft.scale.limit draft.sides draft.blank next.relation next.rises next.some next.word in (
       record {
         scale = draft.scale;
@@ -68,7 +72,8 @@ draft-added p n place D r w draft next =
           | no other ↦ omega arith
           | yes behind ↦
               let apart : q ≢ r = λ same. let orders : order_of q ≡ order_of r = ap (λ (x : Relation). order_of x) same in omega arith in
-              let before : order_of q ≤ place = draft.given q is (sym (entry_at-with_entry_other n D.given false draft.flags r true next.relation q is apart) ∙ was) in
+              let before : order_of q ≤ place =
+              draft.given q is (sym (entry_at-with_entry_other n D.given false draft.flags r true next.relation q is apart) ∙ was) in
               let rises : place < order_of r = next.rises in
               omega arith
         ];
@@ -77,23 +82,28 @@ draft-added p n place D r w draft next =
     )
 
 -- where a line is neither a relation that comes next nor an image, it is the last line, or has no form
-pub only-end : (p n place : ℕ) (line : List ℕ) (Q : Place) → ((r : Relation) (w : List Syllable) → IsNext p n place r w → ¬ (line ≡ relation_line p r w))
+pub only-end : (p n place : ℕ) (line : List ℕ) (Q : Place)
+    → ((r : Relation) (w : List Syllable) → IsNext p n place r w → ¬ (line ≡ relation_line p r w))
     → ((name : List ℕ) (w : List Syllable) → IsName name → AreSyllables p n 0 w → ¬ (line ≡ word_line name w))
     → HasForm (in_body p n zero place) line Q → line ≡ codes "end"
-only-end p n place line Q no_relation no_image (relation p2 n2 m r w z is rises some a) = absurd (no_relation r w (record { relation = is; rises = rises; some = some; word = a }) refl)
+only-end p n place line Q no_relation no_image (relation p2 n2 m r w z is rises some a) =
+    absurd (no_relation r w (record { relation = is; rises = rises; some = some; word = a }) refl)
 only-end p n place line Q no_relation no_image (image p2 n2 m name w z is a) = absurd (no_image name w is a refl)
 only-end p n place line Q no_relation no_image (last p2 n2 m) = refl
 
 -- a relation that the draft doesn't take isn't one that comes next
-pub refused-relation : (p n place : ℕ) (D : Draft) (line : List ℕ) (Q : Place) (r : Relation) (w : List Syllable) → IsDraft p n D place → IsRelation n r → 1 ≤ length w
-    → AreSyllables p n (side_start r) w → line ≡ relation_line p r w → (place < order_of r → ¬ IsAccepted D r w None) → HasForm (in_body p n zero place) line Q → line ≡ codes "end"
+pub refused-relation : (p n place : ℕ) (D : Draft) (line : List ℕ) (Q : Place) (r : Relation) (w : List Syllable) → IsDraft p n D place
+    → IsRelation n r → 1 ≤ length w
+    → AreSyllables p n (side_start r) w → line ≡ relation_line p r w → (place < order_of r → ¬ IsAccepted D r w None)
+    → HasForm (in_body p n zero place) line Q → line ≡ codes "end"
 refused-relation p n place D line Q r w draft it one b same refused (relation p2 n2 m q v z is rises some a) =
     let small : p < 8 = offered-small p z.offered in
     let limit : n ≤ max_rank = z.limit in
     let relations : q ≡ r = (relation_start-same p n q r (word_text v) (word_text w) (omega arith) (omega arith) is it same).0 in
     let behind : place < order_of r = subst (λ (x : Relation). place < order_of x) relations rises in
     absurd (refused behind (IsAccepted-next p n place D r w draft (record { relation = it; rises = behind; some = one; word = b })))
-refused-relation p n place D line Q r w draft it one b same refused (image p2 n2 m name v z is a) = absurd (first-apart 105 114 _ _ refl same)
+refused-relation p n place D line Q r w draft it one b same refused (image p2 n2 m name v z is a) =
+    absurd (first-apart 105 114 _ _ refl same)
 refused-relation p n place D line Q r w draft it one b same refused (last p2 n2 m) = absurd (first-apart 101 114 _ _ refl same)
 
 pub IfOk-then : {X E : Type 0} (o : Result X E) (P Q : X → Type 0) → IfOk o P → ((x : X) → P x → Q x) → IfOk o Q

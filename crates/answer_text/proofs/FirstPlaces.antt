@@ -1,5 +1,6 @@
 -- A text is split at the first place of a byte, and before it there is no such byte.
-use Rattle.std.proofs.Common.{◌≡◌, ℕ, ◌<◌, ◌≤◌, zero, suc, Bool, true, false, cond, ltb, eqb, ◌+◌, ◌-◌, List, [], ◌∷◌, ◌++◌, length, get_or, position, take, drop, drop-cons, Some, None, refl, sym, ap, ◌∙◌, inl, inr, arith}
+use Rattle.std.proofs.Common.{◌≡◌, ℕ, ◌<◌, ◌≤◌, zero, suc, Bool, true, false, cond, ltb, eqb, ◌+◌, ◌-◌, List, [], ◌∷◌, ◌++◌, length, get_or}
+use Rattle.std.proofs.Common.{position, take, drop, drop-cons, Some, None, refl, sym, ap, ◌∙◌, inl, inr, arith}
 use Rattle.std.specs.Prelude.{◌==◌}
 use Rattle.std.specs.List.{position_or_len}
 use Rattle.std.proofs.lemmas.List.Quantifiers.{position-Some}
@@ -35,7 +36,8 @@ avoids-nowhere c xs e =
     let long : length xs ≤ n = ltb-false n (length xs) none in
     avoids-each c xs (λ k h. fails_before_first (λ (b : ℕ). b == c) xs k 0 (omega arith))
 
-split-place : (xs : List ℕ) (i j c : ℕ) → i < length xs → j ≡ suc i → get_or xs i 0 ≡ c → xs ≡ take i xs ++ c ∷ take (length xs - j) (drop j xs)
+split-place : (xs : List ℕ) (i j c : ℕ) → i < length xs → j ≡ suc i → get_or xs i 0 ≡ c
+    → xs ≡ take i xs ++ c ∷ take (length xs - j) (drop j xs)
 split-place xs i j c h next same =
     sym (take-append-drop i xs)
     ∙ ap (λ (t : List ℕ). take i xs ++ t) (drop-cons xs i 0 h)
@@ -43,7 +45,8 @@ split-place xs i j c h next same =
     ∙ ap (λ (k : ℕ). take i xs ++ c ∷ drop k xs) (sym next)
     ∙ ap (λ (t : List ℕ). take i xs ++ c ∷ t) (sym (take_rest xs j))
 
-pub split-first : (c i : ℕ) (xs : List ℕ) → position (λ b. b == c) xs ≡ Some i → xs ≡ take i xs ++ c ∷ take (length xs - (i + 1)) (drop (i + 1) xs)
+pub split-first : (c i : ℕ) (xs : List ℕ) → position (λ b. b == c) xs ≡ Some i
+    → xs ≡ take i xs ++ c ∷ take (length xs - (i + 1)) (drop (i + 1) xs)
 split-first c i xs e =
     let found = position-Some (λ (b : ℕ). b == c) xs i 0 e in
     split-place xs i (i + 1) c found.0 (omega arith) (eqb-true (get_or xs i 0) c found.1)

@@ -1,5 +1,6 @@
 -- A line that has the form of a line in its place has no newline in it, and leads to one place only.
-use Rattle.std.proofs.Common.{◌≡◌, ◌<◌, ◌≤◌, ℕ, zero, suc, true, List, [], ◌∷◌, ◌++◌, drop, decimal, refl, ap, ap₂, sym, subst, ◌∙◌, inl, inr, arith}
+use Rattle.std.proofs.Common.{◌≡◌, ◌<◌, ◌≤◌, ℕ, zero, suc, true, List, [], ◌∷◌, ◌++◌, drop, decimal, refl, ap, ap₂, sym, subst, ◌∙◌, inl}
+use Rattle.std.proofs.Common.{inr, arith}
 use Rattle.std.specs.Prelude.{codes}
 use Rattle.std.proofs.lemmas.Fmt.{decimal_injective}
 use Rattle.pq_base.specs.Limits.{max_rank}
@@ -29,7 +30,8 @@ AreWritten-AreSyllables p n k (s ∷ w) small limit a =
 
 pub avoids-left : (p n : ℕ) (r : Relation) → p < 1000 → n < 1000 → IsRelation n r → avoids 10 (left_text p r) ≡ true
 avoids-left p n (Power j) small limit h =
-    avoids-append 10 (decimal j) (94 ∷ decimal p) (avoids-decimal 10 j (λ d l e. omega arith) (omega (arith, h.1))) (avoids-decimal 10 p (λ d l e. omega arith) small)
+    avoids-append 10 (decimal j) (94 ∷ decimal p) (avoids-decimal 10 j (λ d l e. omega arith) (omega (arith, h.1)))
+    (avoids-decimal 10 p (λ d l e. omega arith) small)
 avoids-left p n (Commutator j i) small limit h =
     avoids-append 10 (decimal j) (44 ∷ 97 ∷ (decimal i ++ 93 ∷ [])) (avoids-decimal 10 j (λ d l e. omega arith) (omega (arith, h.2)))
     (avoids-append 10 (decimal i) (93 ∷ []) (avoids-decimal 10 i (λ d l e. omega arith) (omega (arith, h.1, h.2))) refl)
@@ -45,12 +47,15 @@ avoids-form (rank p n h) = avoids-decimal 10 n (λ d l e. omega arith) (omega ar
 avoids-form (order p n s) =
     let small : p < 8 = offered-small p s.offered in
     let limit : n ≤ max_rank = s.limit in
-    avoids-append 10 (decimal p) (94 ∷ decimal n) (avoids-decimal 10 p (λ d l e. omega arith) (omega arith)) (avoids-decimal 10 n (λ d l e. omega arith) (omega arith))
+    avoids-append 10 (decimal p) (94 ∷ decimal n) (avoids-decimal 10 p (λ d l e. omega arith) (omega arith))
+    (avoids-decimal 10 n (λ d l e. omega arith) (omega arith))
 avoids-form (generator p n m left k w s z inside one top source) =
     let small : p < 8 = offered-small p z.offered in
     let limit : n ≤ max_rank = z.limit in
-    avoids-append 10 (decimal (suc k)) (codes " weight " ++ (decimal w ++ (codes " from " ++ source_text p s))) (avoids-decimal 10 (suc k) (λ d l e. omega arith) (omega arith))
-    (avoids-append 10 (decimal w) (codes " from " ++ source_text p s) (avoids-decimal 10 w (λ d l e. omega arith) (omega arith)) (avoids-source p n s (omega arith) (omega arith) source))
+    avoids-append 10 (decimal (suc k)) (codes " weight " ++ (decimal w ++ (codes " from " ++ source_text p s)))
+    (avoids-decimal 10 (suc k) (λ d l e. omega arith) (omega arith))
+    (avoids-append 10 (decimal w) (codes " from " ++ source_text p s) (avoids-decimal 10 w (λ d l e. omega arith) (omega arith))
+    (avoids-source p n s (omega arith) (omega arith) source))
 avoids-form (relation p n m r w z is rises some a) =
     let small : p < 8 = offered-small p z.offered in
     let limit : n ≤ max_rank = z.limit in
@@ -59,19 +64,24 @@ avoids-form (relation p n m r w z is rises some a) =
 avoids-form (image p n m name w z is a) =
     let small : p < 8 = offered-small p z.offered in
     let limit : n ≤ max_rank = z.limit in
-    avoids-append 10 name (codes " = " ++ word_text w) (avoids-name 10 name refl is) (avoids-word w (AreWritten-AreSyllables p n 0 w (omega arith) (omega arith) a))
+    avoids-append 10 name (codes " = " ++ word_text w) (avoids-name 10 name refl is)
+    (avoids-word w (AreWritten-AreSyllables p n 0 w (omega arith) (omega arith) a))
 avoids-form (last p n m) = refl
 
 -- the left side of a relation tells it, whatever follows
-pub left_text-same : (p n : ℕ) (q r : Relation) (x y : List ℕ) → n < 1000 → IsRelation n q → IsRelation n r → left_text p q ++ x ≡ left_text p r ++ y → q ≡ r
+pub left_text-same : (p n : ℕ) (q r : Relation) (x y : List ℕ) → n < 1000 → IsRelation n q → IsRelation n r
+    → left_text p q ++ x ≡ left_text p r ++ y → q ≡ r
 left_text-same p n (Power i) (Power j) x y limit a b h =
-    let long : 97 ∷ (decimal i ++ 94 ∷ (decimal p ++ x)) ≡ 97 ∷ (decimal j ++ 94 ∷ (decimal p ++ y)) = sym (power_text-long p i x) ∙ h ∙ power_text-long p j y in
+    let long : 97 ∷ (decimal i ++ 94 ∷ (decimal p ++ x)) ≡ 97 ∷ (decimal j ++ 94 ∷ (decimal p ++ y)) =
+    sym (power_text-long p i x) ∙ h ∙ power_text-long p j y in
     ap (λ (k : ℕ). Power k)
-    (decimal-same 94 i j (decimal p ++ x) (decimal p ++ y) (λ d l e. omega arith) (omega (arith, a.1)) (omega (arith, b.1)) (ap (λ (t : List ℕ). drop 1 t) long)).0
+    (decimal-same 94 i j (decimal p ++ x) (decimal p ++ y) (λ d l e. omega arith) (omega (arith, a.1)) (omega (arith, b.1))
+    (ap (λ (t : List ℕ). drop 1 t) long)).0
 left_text-same p n (Power i) (Commutator k l) x y limit a b h = absurd (power-commutator-apart p i k l y x (sym h))
 left_text-same p n (Commutator j i) (Power k) x y limit a b h = absurd (power-commutator-apart p k j i x y h)
 left_text-same p n (Commutator j i) (Commutator k l) x y limit a b h =
-    let same : (j ≡ k) × (i ≡ l) = commutator_text-same j i k l x y (omega (arith, a.2)) (omega (arith, a.1, a.2)) (omega (arith, b.2)) (omega (arith, b.1, b.2)) h in
+    let same : (j ≡ k) × (i ≡ l) =
+    commutator_text-same j i k l x y (omega (arith, a.2)) (omega (arith, a.1, a.2)) (omega (arith, b.2)) (omega (arith, b.1, b.2)) h in
     ap₂ (λ (s t : ℕ). Commutator s t) same.0 same.1
 
 pub form-same : {P Q R : Place} {l k : List ℕ} → HasForm P l Q → HasForm P k R → l ≡ k → Q ≡ R
@@ -80,13 +90,15 @@ form-same (prime p o) (prime q u) h =
     let low : q < 8 = offered-small q u in
     ap (λ (x : ℕ). for_class x) (decimal_injective p q (omega arith) (omega arith) (ap (λ (x : List ℕ). drop 6 x) h))
 form-same (class p c a) (class q d b) h = refl
-form-same (rank p n a) (rank q m b) h = ap (λ (x : ℕ). for_order p x) (decimal_injective n m (omega arith) (omega arith) (ap (λ (x : List ℕ). drop 5 x) h))
+form-same (rank p n a) (rank q m b) h =
+    ap (λ (x : ℕ). for_order p x) (decimal_injective n m (omega arith) (omega arith) (ap (λ (x : List ℕ). drop 5 x) h))
 form-same (order p n s) (order q m t) h = refl
 form-same (generator p n m left k w s z inside one top source) (generator p2 n2 m2 left2 k2 w2 s2 z2 inside2 one2 top2 source2) h = refl
 form-same (relation p n m r w z is rises some a) (relation p2 n2 m2 q v z2 is2 rises2 some2 b) h =
     let limit : n ≤ max_rank = z.limit in
     ap (λ (x : Relation). in_body p n zero (order_of x))
-    (left_text-same p n r q (codes " = " ++ word_text w) (codes " = " ++ word_text v) (omega arith) is is2 (ap (λ (x : List ℕ). drop 9 x) h))
+    (left_text-same p n r q (codes " = " ++ word_text w) (codes " = " ++ word_text v) (omega arith) is is2
+    (ap (λ (x : List ℕ). drop 9 x) h))
 form-same (relation p n m r w z is rises some a) (image p2 n2 m2 name v z2 is2 b) h = absurd (first-apart 114 105 _ _ refl h)
 form-same (relation p n m r w z is rises some a) (last p2 n2 m2) h = absurd (first-apart 114 101 _ _ refl h)
 form-same (image p n m name v z is b) (relation p2 n2 m2 r w z2 is2 rises some a) h = absurd (first-apart 105 114 _ _ refl h)

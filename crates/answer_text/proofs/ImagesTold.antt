@@ -1,5 +1,6 @@
 -- The text of the images tells the names and the images.
-use Rattle.std.proofs.Common.{◌≡◌, ◌<◌, ◌≤◌, ℕ, true, false, List, [], ◌∷◌, ◌++◌, length, drop, refl, ap, ap₂, sym, ◌∙◌, arith, append_assoc}
+use Rattle.std.proofs.Common.{◌≡◌, ◌<◌, ◌≤◌, ℕ, true, false, List, [], ◌∷◌, ◌++◌, length, drop, refl, ap, ap₂, sym, ◌∙◌, arith}
+use Rattle.std.proofs.Common.{append_assoc}
 use Rattle.std.proofs.lemmas.Bool.{and_parts}
 use Rattle.std.specs.Prelude.{codes}
 use Rattle.std.specs.List.{list_all}
@@ -49,7 +50,8 @@ images_text-first : (n e : List ℕ) (ns es : List (List ℕ))
     → images_text (n ∷ ns) (e ∷ es) ≡ codes "image " ++ (n ++ 32 ∷ (codes "= " ++ (word_text (syllables_of 0 e) ++ 10 ∷ images_text ns es)))
 images_text-first n e ns es = simp append_assoc
 
-pub images-same : (p m : ℕ) (ns es os fs : List (List ℕ)) → p < 100 → m ≤ max_rank → AreNames ns → AreNames os → length es ≡ length ns → length fs ≡ length os
+pub images-same : (p m : ℕ) (ns es os fs : List (List ℕ)) → p < 100 → m ≤ max_rank → AreNames ns → AreNames os → length es ≡ length ns
+    → length fs ≡ length os
     → AreNormal p m es → AreNormal p m fs → images_text ns es ≡ images_text os fs → (ns ≡ os) × (es ≡ fs)
 images-same p m [] [] [] [] small inside a b k l u v h = (refl, refl)
 images-same p m [] [] [] (f ∷ fs) small inside a b k l u v h = absurd (omega arith)
@@ -64,7 +66,9 @@ images-same p m (n ∷ ns) (e ∷ es) (o ∷ os) (f ∷ fs) small inside a b k l
     let long : length e ≡ m = u.0.count in
     let other : length f ≡ m = v.0.count in
     let whole = sym (images_text-first n e ns es) ∙ h ∙ images_text-first o f os fs in
-    let name = split-same 32 n o (codes "= " ++ (word_text (syllables_of 0 e) ++ 10 ∷ images_text ns es)) (codes "= " ++ (word_text (syllables_of 0 f) ++ 10 ∷ images_text os fs))
+    let name =
+    split-same 32 n o (codes "= " ++ (word_text (syllables_of 0 e) ++ 10 ∷ images_text ns es))
+    (codes "= " ++ (word_text (syllables_of 0 f) ++ 10 ∷ images_text os fs))
     (avoids-name 32 n refl a.0) (avoids-name 32 o refl b.0) (ap (λ (t : List ℕ). drop 6 t) whole) in
     let ws = AreWritten-syllables_of p 0 e (omega arith) (omega arith) u.0.below in
     let vs = AreWritten-syllables_of p 0 f (omega arith) (omega arith) v.0.below in

@@ -8,7 +8,8 @@ use Rattle.pq_base.specs.Answer.{Answer, Definition}
 use Rattle.pq_base.specs.Answer.Definition.{image, commutator, power}
 use Rattle.pc_presentation.specs.declared.syllable.Syllable.{Syllable}
 use Rattle.pc_presentation.specs.Syllable.{syllables_of}
-use Rattle.answer_text.specs.AnswerData.{number_data, syllable_data, word_data, definition_data, power_data, commutator_data, powers_data, commutator_row_data, commutators_data, image_data, images_data, answer_data}
+use Rattle.answer_text.specs.AnswerData.{number_data, syllable_data, word_data, definition_data, power_data, commutator_data, powers_data}
+use Rattle.answer_text.specs.AnswerData.{commutator_row_data, commutators_data, image_data, images_data, answer_data}
 
 abbrev NoFloats : List Data → Type 0
 NoFloats ds = items_have_float (items_of ds) ≡ false
@@ -18,10 +19,11 @@ NoFloats-cons d ds first rest = ap (λ (b : Bool). b || items_have_float (items_
 
 NoFloats-append : (ds es : List Data) → NoFloats ds → NoFloats es → NoFloats (ds ++ es)
 NoFloats-append [] es first rest = rest
-NoFloats-append (d ∷ ds) es first rest = elim (has_float d) as (λ b. (b || items_have_float (items_of ds)) ≡ false → (b || items_have_float (items_of (ds ++ es))) ≡ false) [
-  | true ↦ λ h. h
-  | false ↦ λ h. NoFloats-append ds es h rest
-] first
+NoFloats-append (d ∷ ds) es first rest =
+    elim (has_float d) as (λ b. (b || items_have_float (items_of ds)) ≡ false → (b || items_have_float (items_of (ds ++ es))) ≡ false) [
+      | true ↦ λ h. h
+      | false ↦ λ h. NoFloats-append ds es h rest
+    ] first
 
 numbers : (ns : List ℕ) → NoFloats (map number_data ns)
 numbers [] = refl
@@ -41,7 +43,8 @@ has_float-definition names (power j) = refl
 
 definitions : (names : List (List ℕ)) (ds : List Definition) → NoFloats (map (definition_data names) ds)
 definitions names [] = refl
-definitions names (d ∷ ds) = NoFloats-cons (definition_data names d) (map (definition_data names) ds) (has_float-definition names d) (definitions names ds)
+definitions names (d ∷ ds) =
+    NoFloats-cons (definition_data names d) (map (definition_data names) ds) (has_float-definition names d) (definitions names ds)
 
 one_word : (w : List Syllable) → (has_float (word_data w) || false) ≡ false
 one_word w = ap (λ (b : Bool). b || false) (has_float-word w)
@@ -57,16 +60,19 @@ commutator-none j i (s ∷ ss) = ap (λ (b : Bool). b || false) (one_word (s ∷
 powers : (k : ℕ) (sides : List (List ℕ)) → NoFloats (powers_data k sides)
 powers k [] = refl
 powers k (side ∷ sides) =
-    NoFloats-append (power_data (suc k) (syllables_of (suc k) side)) (powers_data (suc k) sides) (power-none (suc k) (syllables_of (suc k) side)) (powers (suc k) sides)
+    NoFloats-append (power_data (suc k) (syllables_of (suc k) side)) (powers_data (suc k) sides)
+    (power-none (suc k) (syllables_of (suc k) side)) (powers (suc k) sides)
 
 row : (j k : ℕ) (sides : List (List ℕ)) → NoFloats (commutator_row_data j k sides)
 row j k [] = refl
 row j k (side ∷ sides) =
-    NoFloats-append (commutator_data j (suc k) (syllables_of j side)) (commutator_row_data j (suc k) sides) (commutator-none j (suc k) (syllables_of j side)) (row j (suc k) sides)
+    NoFloats-append (commutator_data j (suc k) (syllables_of j side)) (commutator_row_data j (suc k) sides)
+    (commutator-none j (suc k) (syllables_of j side)) (row j (suc k) sides)
 
 rows : (k : ℕ) (all : List (List (List ℕ))) → NoFloats (commutators_data k all)
 rows k [] = refl
-rows k (sides ∷ all) = NoFloats-append (commutator_row_data (suc k) 0 sides) (commutators_data (suc k) all) (row (suc k) 0 sides) (rows (suc k) all)
+rows k (sides ∷ all) =
+    NoFloats-append (commutator_row_data (suc k) 0 sides) (commutators_data (suc k) all) (row (suc k) 0 sides) (rows (suc k) all)
 
 images : (names es : List (List ℕ)) → NoFloats (images_data names es)
 images [] es = refl
@@ -75,4 +81,10 @@ images (name ∷ names) (e ∷ es) = NoFloats-cons (image_data name e) (images_d
 
 pub has_float-answer : (A : Answer) → has_float (answer_data A) ≡ false
 has_float-answer A =
-    rw (rows 0 A.presentation.commutators, definitions A.names A.definitions, images A.names A.images, powers 0 A.presentation.powers, numbers A.weights) refl
+    rw (
+      rows 0 A.presentation.commutators,
+      definitions A.names A.definitions,
+      images A.names A.images,
+      powers 0 A.presentation.powers,
+      numbers A.weights,
+    ) refl

@@ -1,6 +1,7 @@
 -- A text is split at a byte in one way only, where what stands before the byte has none of its kind. So decimal numbers
 -- that a byte ends are told apart.
-use Rattle.std.proofs.Common.{◌≡◌, ◌≢◌, ◌<◌, ◌+◌, ◌%◌, ◌^◌, ℕ, suc, true, false, cond, eqb, List, [], ◌∷◌, ◌++◌, get_or, length, drop, decimal, refl, ap, ap₂, sym, arith}
+use Rattle.std.proofs.Common.{◌≡◌, ◌≢◌, ◌<◌, ◌+◌, ◌%◌, ◌^◌, ℕ, suc, true, false, cond, eqb, List, [], ◌∷◌, ◌++◌, get_or, length, drop}
+use Rattle.std.proofs.Common.{decimal, refl, ap, ap₂, sym, arith}
 use Rattle.std.proofs.lemmas.List.{length-append}
 use Rattle.std.proofs.lemmas.Fmt.{decimal_injective, decimal_by_steps}
 use borrow.Author.Tests.{eqb-true, eqb-false}
@@ -41,12 +42,14 @@ avoids-append c (x ∷ xs) ys h g =
     let parts = avoids-parts c x xs h in
     avoids-cons c x (xs ++ ys) parts.0 (avoids-append c xs ys parts.1 g)
 
-pub split-same : (c : ℕ) (xs ys us vs : List ℕ) → avoids c xs ≡ true → avoids c ys ≡ true → xs ++ c ∷ us ≡ ys ++ c ∷ vs → (xs ≡ ys) × (us ≡ vs)
+pub split-same : (c : ℕ) (xs ys us vs : List ℕ) → avoids c xs ≡ true → avoids c ys ≡ true → xs ++ c ∷ us ≡ ys ++ c ∷ vs
+    → (xs ≡ ys) × (us ≡ vs)
 split-same c [] [] us vs a b h = (refl, rest-same c c us vs h)
 split-same c [] (y ∷ ys) us vs a b h = absurd ((avoids-parts c y ys b).0 (sym (first-same c y us (ys ++ c ∷ vs) h)))
 split-same c (x ∷ xs) [] us vs a b h = absurd ((avoids-parts c x xs a).0 (first-same x c (xs ++ c ∷ us) vs h))
 split-same c (x ∷ xs) (y ∷ ys) us vs a b h =
-    let more = split-same c xs ys us vs (avoids-parts c x xs a).1 (avoids-parts c y ys b).1 (rest-same x y (xs ++ c ∷ us) (ys ++ c ∷ vs) h) in
+    let more =
+    split-same c xs ys us vs (avoids-parts c x xs a).1 (avoids-parts c y ys b).1 (rest-same x y (xs ++ c ∷ us) (ys ++ c ∷ vs) h) in
     let first : x ≡ y = first-same x y (xs ++ c ∷ us) (ys ++ c ∷ vs) h in
     (ap₂ (λ (z : ℕ) (zs : List ℕ). z ∷ zs) first more.0, more.1)
 
@@ -64,7 +67,8 @@ avoids-decimal c n none h =
     (λ m ds l before. avoids-append c ds ((48 + m % 10) ∷ []) before (avoids-cons c (48 + m % 10) [] (none (m % 10) (omega arith)) refl))
     n (wide n h)
 
-pub decimal-same : (c m n : ℕ) (us vs : List ℕ) → IsNoDigit c → m < 1000 → n < 1000 → decimal m ++ c ∷ us ≡ decimal n ++ c ∷ vs → (m ≡ n) × (us ≡ vs)
+pub decimal-same : (c m n : ℕ) (us vs : List ℕ) → IsNoDigit c → m < 1000 → n < 1000 → decimal m ++ c ∷ us ≡ decimal n ++ c ∷ vs
+    → (m ≡ n) × (us ≡ vs)
 decimal-same c m n us vs none h g same =
     let parts = split-same c (decimal m) (decimal n) us vs (avoids-decimal c m none h) (avoids-decimal c n none g) same in
     (decimal_injective m n (wide m h) (wide n g) parts.0, parts.1)

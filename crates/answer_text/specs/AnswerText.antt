@@ -44,7 +44,8 @@ power_lines p k (side ∷ sides) = relation_lines (power_text p (suc k)) (syllab
 -- the commutators of generator j with the generators after number k
 abbrev pub commutator_row_lines : ℕ → ℕ → List (List ℕ) → List (List ℕ)
 commutator_row_lines j k [] = []
-commutator_row_lines j k (side ∷ sides) = relation_lines (commutator_text j (suc k)) (syllables_of j side) ++ commutator_row_lines j (suc k) sides
+commutator_row_lines j k (side ∷ sides) =
+    relation_lines (commutator_text j (suc k)) (syllables_of j side) ++ commutator_row_lines j (suc k) sides
 
 -- the commutators of the generators after number k
 abbrev pub commutator_lines : ℕ → List (List (List ℕ)) → List (List ℕ)

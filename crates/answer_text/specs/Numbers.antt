@@ -10,5 +10,6 @@ abbrev pub number_of : List ℕ → Option ℕ
 number_of [] = None
 number_of (c ∷ []) = cond (is_digit c) (Some (c - 48)) None
 number_of (b ∷ c ∷ []) = cond (nat_lt 48 b && (is_digit b && is_digit c)) (Some (10 * (b - 48) + (c - 48))) None
-number_of (a ∷ b ∷ c ∷ []) = cond (nat_lt 48 a && (is_digit a && (is_digit b && is_digit c))) (Some (100 * (a - 48) + (10 * (b - 48) + (c - 48)))) None
+number_of (a ∷ b ∷ c ∷ []) =
+    cond (nat_lt 48 a && (is_digit a && (is_digit b && is_digit c))) (Some (100 * (a - 48) + (10 * (b - 48) + (c - 48)))) None
 number_of (a ∷ b ∷ c ∷ d ∷ more) = None

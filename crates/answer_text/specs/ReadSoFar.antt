@@ -22,7 +22,8 @@ IsHead p n bytes rest = (c : ℕ) × IsScale p n × (c ≤ max_class) × (bytes 
 -- the same, behind the line of the prime
 abbrev pub IsSize : ℕ → ℕ → List ℕ → List ℕ → Type 0
 IsSize p n text rest = (c : ℕ) × IsScale p n × (c ≤ max_class)
-    × (text ≡ text_of_lines ((codes "class " ++ decimal c) ∷ (codes "rank " ++ decimal n) ∷ (codes "order " ++ (decimal p ++ (codes "^" ++ decimal n))) ∷ []) ++ rest)
+    × (text ≡ text_of_lines ((codes "class " ++ decimal c) ∷ (codes "rank " ++ decimal n)
+    ∷ (codes "order " ++ (decimal p ++ (codes "^" ++ decimal n))) ∷ []) ++ rest)
 
 -- the lines of the generators after number k
 abbrev pub source_lines : ℕ → ℕ → List ℕ → List Source → List (List ℕ)

@@ -9,7 +9,8 @@ use Rattle.answer_text.specs.declared.source.Source.TheVariants.{Image, RightSid
 
 -- where the name is one of as many as an answer may have, the number, counted from 1, is that of a name equal to it
 abbrev pub FindsName : List (List ℕ) → List ℕ → ℕ → Type 0
-FindsName names name n = (i : ℕ) → i < length names → i < max_names → get_or names i [] ≡ name → (1 ≤ n) × (n ≤ length names) × (get_or names (n - 1) [] ≡ name)
+FindsName names name n =
+    (i : ℕ) → i < length names → i < max_names → get_or names i [] ≡ name → (1 ≤ n) × (n ≤ length names) × (get_or names (n - 1) [] ≡ name)
 
 -- the definition is the one that the source means
 abbrev pub Resolves : List (List ℕ) → Source → Definition → Type 0

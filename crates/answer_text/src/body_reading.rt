@@ -47,7 +47,8 @@ pub(crate) fn read_body(body: &mut Body, head: Head, text: &[u8]) -> Result<u32,
     requires limit { length text.now + head.rank + 4 < 2 ^ 32 - 1 }
     requires start { IsBodyRead (prime_value head.prime) head.rank body.now.builder.built.weights text.now text.now (head.rank + 5)
         (so_far body.now.builder body.now.last body.now.names.items (words_of body.now.images.items)) }
-    ensures ok { IfOk result (λ number. IsBodyRead (prime_value head.prime) head.rank body.old.builder.built.weights text.now (codes "end\n") number
+    ensures ok { IfOk result
+        (λ number. IsBodyRead (prime_value head.prime) head.rank body.old.builder.built.weights text.now (codes "end\n") number
         (so_far body.new.builder body.new.last body.new.names.items (words_of body.new.images.items))) }
     ensures err { IfErr result (IsBadAt (in_body (prime_value head.prime) head.rank 0 0) text.now (head.rank + 5)) }
 {
@@ -73,7 +74,9 @@ pub(crate) fn read_body(body: &mut Body, head: Head, text: &[u8]) -> Result<u32,
 /// Adds what a line says, and says whether it has the form of a relation or an image in its place.
 fn add_line(body: &mut Body, head: Head, line: &[u8]) -> Result<bool, NoMemory>
     requires { head.rank ≤ max_rank }
-    ensures added { IfOk result (λ b. IsTrue b → Adds (prime_value head.prime) head.rank (so_far body.old.builder body.old.last body.old.names.items (words_of body.old.images.items))
+    ensures added { IfOk result
+        (λ b. IsTrue b → Adds (prime_value head.prime) head.rank
+        (so_far body.old.builder body.old.last body.old.names.items (words_of body.old.images.items))
         (so_far body.new.builder body.new.last body.new.names.items (words_of body.new.images.items)) line.now) }
     ensures refused { IfOk result (λ b. ¬ IsTrue b → IsDraft (prime_value head.prime) head.rank body.old.builder body.old.last
         → (Q : Place) → HasForm (in_body (prime_value head.prime) head.rank 0 body.old.last) line.now Q → line.now ≡ codes "end") }
@@ -99,7 +102,8 @@ fn add_relation(body: &mut Body, relation: Relation, word: &[Syllable]) -> Resul
     ensures rises { IfOk result (λ b. IsTrue b → (body.old.last < order_of relation) × (body.new.last ≡ order_of relation)) }
     ensures added { IfOk result (λ b. IsTrue b → body.new.builder ≡ extended body.old.builder relation word.now Nothing) }
     ensures images { (body.new.names.items ≡ body.old.names.items) × (body.new.images.items ≡ body.old.images.items) }
-    ensures refused { IfOk result (λ b. ¬ IsTrue b → body.old.last < order_of relation → ¬ IsAccepted body.old.builder relation word.now Nothing) }
+    ensures refused { IfOk result
+        (λ b. ¬ IsTrue b → body.old.last < order_of relation → ¬ IsAccepted body.old.builder relation word.now Nothing) }
 {
     let place = place(relation);
     if place <= body.last {

@@ -22,7 +22,8 @@ pub(crate) fn read_generators<'a>(
     text: &'a [u8],
 ) -> Result<(Vec<u8>, Vec<Source>, &'a [u8]), AnswerFault>
     requires { head.rank ≤ max_rank }
-    ensures ok { IfOk result (λ x. (length x.0.items ≡ head.rank) × (length x.1.items ≡ head.rank) × AreSources head.rank x.0.items x.1.items
+    ensures ok { IfOk result
+        (λ x. (length x.0.items ≡ head.rank) × (length x.1.items ≡ head.rank) × AreSources head.rank x.0.items x.1.items
         × (text.now ≡ text_of_lines (source_lines (prime_value head.prime) 0 x.0.items x.1.items) ++ x.2.now)) }
     ensures shorter { IfOk result (λ x. length x.2.now + head.rank ≤ length text.now) }
     ensures err { IfErr result (IsBadAt (in_body (prime_value head.prime) head.rank head.rank 0) text.now 5) }

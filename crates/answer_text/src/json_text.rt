@@ -2,7 +2,8 @@
 
 ghost use Rattle.std.specs.Prelude.{◌≡◌, ◌≤◌, ◌-◌, ◌++◌, [], ◌∷◌, IfOk, OnOk, map, get_or};
 ghost use Rattle.serde_json.specs.View.{view};
-ghost use Rattle.answer_text.specs.AnswerData.{list_data, number_data, definition_data, powers_data, commutator_row_data, commutators_data, images_data, answer_data, answer_json};
+ghost use Rattle.answer_text.specs.AnswerData.{list_data, number_data, definition_data, powers_data, commutator_row_data, commutators_data};
+ghost use Rattle.answer_text.specs.AnswerData.{images_data, answer_data, answer_json};
 
 use crate::values::{definition_value, image_value, push_commutator, push_power};
 use pc_presentation::{Answer, Relation};

@@ -10,7 +10,8 @@ ghost use Rattle.pc_presentation.specs.Relation.{IsRelation, side_start};
 ghost use Rattle.pc_presentation.specs.Syllable.{AreSyllables};
 ghost use Rattle.answer_text.specs.declared.source.Source.{Source as SourceData};
 ghost use Rattle.answer_text.specs.Lines.{avoids};
-ghost use Rattle.answer_text.specs.AnswerPlaces.{IsSource, generator_start, left_text, prime_line, class_line, rank_line, order_line, source_line, relation_line, word_line};
+ghost use Rattle.answer_text.specs.AnswerPlaces.{IsSource, generator_start, left_text, prime_line, class_line, rank_line, order_line};
+ghost use Rattle.answer_text.specs.AnswerPlaces.{source_line, relation_line, word_line};
 
 use crate::pieces::{behind, left_side, number, number_before, split_at_first};
 use crate::source::Source;
@@ -76,7 +77,8 @@ pub(crate) fn generator_line(line: &[u8], k: u16, prime: u8, rank: u16) -> Optio
     requires k { k < 1000 }
     requires rank { rank < 1000 }
     ensures some { IfSome result (λ x. (1 ≤ x.0) × (x.0 ≤ max_class) × IsSource rank x.1 × (line.now ≡ source_line prime k x.0 x.1)) }
-    ensures none { IfNone result ((w : ℕ) (s : SourceData) → 1 ≤ w → w ≤ max_class → IsSource rank s → ¬ (line.now ≡ source_line prime k w s)) }
+    ensures none { IfNone result
+        ((w : ℕ) (s : SourceData) → 1 ≤ w → w ≤ max_class → IsSource rank s → ¬ (line.now ≡ source_line prime k w s)) }
 {
     let (number, weight, text) = numbers(line)?;
     if number != k || weight < 1 || u16::from(CLASS) < weight {
@@ -104,7 +106,8 @@ pub(crate) fn relation_line(
 ) -> Result<Option<(Relation, Vec<Syllable>)>, NoMemory>
     requires prime { prime ≤ 100 }
     requires rank { rank < 1000 }
-    ensures some { IfOk result (λ o. IfSome o (λ x. IsRelation rank x.0 × (1 ≤ length x.1.items) × AreSyllables prime rank (side_start x.0) x.1.items
+    ensures some { IfOk result
+        (λ o. IfSome o (λ x. IsRelation rank x.0 × (1 ≤ length x.1.items) × AreSyllables prime rank (side_start x.0) x.1.items
         × (line.now ≡ relation_line prime x.0 x.1.items))) }
     ensures none { IfOk result (λ o. IfNone o ((r : RelationData) (w : List SyllableRecord) → IsRelation rank r → 1 ≤ length w
         → AreSyllables prime rank (side_start r) w → ¬ (line.now ≡ relation_line prime r w))) }
@@ -134,7 +137,8 @@ fn leading(relation: Relation) -> u16
 /// The relation of the line of a relation, and what stands behind the equals sign.
 fn relation_start(line: &[u8], prime: u8, rank: u16) -> Option<(Relation, &[u8])>
     requires { rank < 1000 }
-    ensures some { IfSome result (λ x. IsRelation rank x.0 × (line.now ≡ codes "relation " ++ (left_text prime x.0 ++ (codes " = " ++ x.1.now)))) }
+    ensures some { IfSome result
+        (λ x. IsRelation rank x.0 × (line.now ≡ codes "relation " ++ (left_text prime x.0 ++ (codes " = " ++ x.1.now)))) }
     ensures none { IfNone result ((r : RelationData) (t : List ℕ) → IsRelation rank r
         → ¬ (line.now ≡ codes "relation " ++ (left_text prime r ++ (codes " = " ++ t)))) }
 {
@@ -151,8 +155,10 @@ pub(crate) fn image_line(
 ) -> Result<Option<(Name, Vec<Syllable>)>, NoMemory>
     requires prime { prime ≤ 100 }
     requires rank { rank < 1000 }
-    ensures some { IfOk result (λ o. IfSome o (λ x. IsName x.0 × AreSyllables prime rank 0 x.1.items × (line.now ≡ word_line x.0 x.1.items))) }
-    ensures none { IfOk result (λ o. IfNone o ((n : List ℕ) (w : List SyllableRecord) → IsName n → AreSyllables prime rank 0 w → ¬ (line.now ≡ word_line n w))) }
+    ensures some { IfOk result
+        (λ o. IfSome o (λ x. IsName x.0 × AreSyllables prime rank 0 x.1.items × (line.now ≡ word_line x.0 x.1.items))) }
+    ensures none { IfOk result
+        (λ o. IfNone o ((n : List ℕ) (w : List SyllableRecord) → IsName n → AreSyllables prime rank 0 w → ¬ (line.now ≡ word_line n w))) }
 {
     let Some((name, right)) = image_start(line) else {
         return Ok(None);

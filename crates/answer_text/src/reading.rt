@@ -74,7 +74,9 @@ struct Reading {
 /// All lines of a text, or the first that hasn't the form of a line in its place.
 fn read_lines(alloc: Global, bytes: &[u8]) -> Result<Reading, AnswerFault>
     requires { length bytes.now < 2 ^ 32 - 1 }
-    ensures ok { IfOk result (λ r. IsRead bytes.now r.end r.sources.items (so_far r.body.builder r.body.last r.body.names.items (words_of r.body.images.items))) }
+    ensures ok { IfOk result
+        (λ r. IsRead bytes.now r.end r.sources.items
+        (so_far r.body.builder r.body.last r.body.names.items (words_of r.body.images.items))) }
     ensures err { IfErr result (IsBadAt for_prime bytes.now 1) }
 {
     let (head, rest) = read_head(bytes)?;
@@ -97,7 +99,10 @@ fn answer_of(
     body: Body,
 ) -> Result<Option<Answer>, NoMemory>
     ensures some { IfOk result (λ o. IfSome o (λ a. bytes.now ≡ answer_text a)) }
-    ensures none { IfOk result (λ o. IfNone o ((end : ℕ) → IsRead bytes.now end sources.now (so_far body.builder body.last body.names.items (words_of body.images.items)) → ¬ IsAnswerText bytes.now)) }
+    ensures none { IfOk result
+        (λ o. IfNone o ((end : ℕ)
+        → IsRead bytes.now end sources.now (so_far body.builder body.last body.names.items (words_of body.images.items))
+        → ¬ IsAnswerText bytes.now)) }
 {
     let definitions = definitions(alloc, sources, &body.names)?;
     let Body {

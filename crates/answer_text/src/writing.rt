@@ -6,7 +6,9 @@ ghost use Rattle.pq_base.specs.Lines.{text_of_lines};
 ghost use Rattle.pq_base.specs.Name.{name_text};
 ghost use Rattle.pc_presentation.specs.Definition.{definition_of};
 ghost use Rattle.answer_text.specs.Words.{AreExponents, word_text};
-ghost use Rattle.answer_text.specs.AnswerText.{answer_text, head_lines, definition_text, generator_line, generator_lines, relation_lines, power_text, power_lines, commutator_text, commutator_row_lines, commutator_lines, image_line, image_lines};
+ghost use Rattle.answer_text.specs.AnswerText.{answer_text, head_lines, definition_text, generator_line, generator_lines, relation_lines};
+ghost use Rattle.answer_text.specs.AnswerText.{power_text, power_lines, commutator_text, commutator_row_lines, commutator_lines};
+ghost use Rattle.answer_text.specs.AnswerText.{image_line, image_lines};
 
 use crate::words::{push_generator, push_word};
 use pc_presentation::{Answer, Definition, Relation, Syllable};
@@ -29,7 +31,8 @@ pub fn text(alloc: Global, answer: &Answer) -> Result<Vec<u8>, NoMemory>
 
 /// Prime, class, rank and order.
 fn push_head(out: &mut Vec<u8>, answer: &Answer) -> Result<(), NoMemory>
-    ensures { OnOk result (out.new.items ≡ out.old.items ++ text_of_lines (head_lines answer.now.presentation.prime (class_of answer.now) answer.now.presentation.rank)) }
+    ensures { OnOk result (out.new.items
+        ≡ out.old.items ++ text_of_lines (head_lines answer.now.presentation.prime (class_of answer.now) answer.now.presentation.rank)) }
 {
     let prime = answer.pcp().prime().value();
     let rank = answer.pcp().rank();
@@ -71,7 +74,8 @@ fn push_generator_line(
     weight: u8,
     definition: Definition,
 ) -> Result<(), NoMemory>
-    ensures { OnOk result (out.new.items ≡ out.old.items ++ (generator_line prime names.now k weight (definition_of definition) ++ 10 ∷ [])) }
+    ensures { OnOk result (out.new.items
+        ≡ out.old.items ++ (generator_line prime names.now k weight (definition_of definition) ++ 10 ∷ [])) }
 {
     out.extend_from_slice(b"generator ")?;
     push_generator(out, k)?;
@@ -138,7 +142,8 @@ fn push_power(out: &mut Vec<u8>, prime: u8, j: u16) -> Result<(), NoMemory>
 
 /// The lines of the powers whose words aren't empty.
 fn push_powers(out: &mut Vec<u8>, answer: &Answer) -> Result<(), NoMemory>
-    ensures { OnOk result (out.new.items ≡ out.old.items ++ text_of_lines (power_lines answer.now.presentation.prime 0 answer.now.presentation.powers)) }
+    ensures { OnOk result (out.new.items
+        ≡ out.old.items ++ text_of_lines (power_lines answer.now.presentation.prime 0 answer.now.presentation.powers)) }
 {
     let prime = answer.pcp().prime().value();
     let rank = answer.pcp().rank();
@@ -192,7 +197,8 @@ fn push_commutators(out: &mut Vec<u8>, answer: &Answer) -> Result<(), NoMemory>
 fn push_commutator_row(out: &mut Vec<u8>, answer: &Answer, j: u16) -> Result<(), NoMemory>
     requires from_one { 1 ≤ j }
     requires in_range { j ≤ answer.now.presentation.rank }
-    ensures { OnOk result (out.new.items ≡ out.old.items ++ text_of_lines (commutator_row_lines j 0 (get_or answer.now.presentation.commutators (j - 1) []))) }
+    ensures { OnOk result (out.new.items
+        ≡ out.old.items ++ text_of_lines (commutator_row_lines j 0 (get_or answer.now.presentation.commutators (j - 1) []))) }
 {
     let pcp = answer.pcp();
     for k in 0..j - 1 {
@@ -236,7 +242,8 @@ fn push_images(out: &mut Vec<u8>, answer: &Answer) -> Result<(), NoMemory>
 /// The line of an image.
 fn push_image(out: &mut Vec<u8>, name: &Name, word: &[Syllable]) -> Result<(), NoMemory>
     requires { AreExponents word.now }
-    ensures { OnOk result (out.new.items ≡ out.old.items ++ (codes "image " ++ (name.now ++ (codes " = " ++ (word_text word.now ++ 10 ∷ []))))) }
+    ensures { OnOk result (out.new.items
+        ≡ out.old.items ++ (codes "image " ++ (name.now ++ (codes " = " ++ (word_text word.now ++ 10 ∷ []))))) }
 {
     out.extend_from_slice(b"image ")?;
     out.extend_from_slice(name.bytes())?;

@@ -57,7 +57,8 @@ fn word_of_tail(
     requires limit { length kept.now ≤ max_rank }
     requires first { 1 ≤ tail }
     requires last { tail ≤ basis.now.width }
-    ensures { IfOk result (λ v. v.items ≡ syllables_of 0 (get_or (kept_rows basis.now.prime basis.now.width basis.now.rows) (tail - 1) [])) }
+    ensures { IfOk result (λ v. v.items
+        ≡ syllables_of 0 (get_or (kept_rows basis.now.prime basis.now.width basis.now.rows) (tail - 1) [])) }
 {
     let _conditions = basis.width();
     if basis.is_pivot(tail) {

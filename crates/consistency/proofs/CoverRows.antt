@@ -28,21 +28,26 @@ module _ (T : TailedPresentation) (is : IsTailedPresentation T) (push : State �
 
   pub exponents-agree : IsConsistent T.presentation → ExponentsAgree (rowed_presentation T) push (overlap_of o)
   exponents-agree consistent =
-      ends-agree (rowed_presentation T) (rowed_presentation-is T is) big push meaning (overlap_of o) (overlap_of-is T.presentation.rank o numbers) consistent
+      ends-agree (rowed_presentation T) (rowed_presentation-is T is) big push meaning (overlap_of o)
+      (overlap_of-is T.presentation.rank o numbers) consistent
 
   pub overlap_row-length : length (overlap_row (rowed_presentation T) push (overlap_of o)) ≡ T.tails
   overlap_row-length =
-      (overlap_row-row (rowed_presentation T) (rowed_presentation-is T is) big push meaning (overlap_of o) (overlap_of-is T.presentation.rank o numbers)).count
+      (overlap_row-row (rowed_presentation T) (rowed_presentation-is T is) big push meaning (overlap_of o)
+      (overlap_of-is T.presentation.rank o numbers)).count
 
   pub cover_row-trivial : ExponentsAgree (rowed_presentation T) push (overlap_of o)
       → Joined (flat (rowed_presentation T)) (word_from T.presentation.rank (overlap_row (rowed_presentation T) push (overlap_of o))) []
   cover_row-trivial same =
-      overlap_row-trivial (rowed_presentation T) (rowed_presentation-is T is) big push meaning (overlap_of o) (overlap_of-is T.presentation.rank o numbers) same
+      overlap_row-trivial (rowed_presentation T) (rowed_presentation-is T is) big push meaning (overlap_of o)
+      (overlap_of-is T.presentation.rank o numbers) same
 
 -- the state of an element is the end of a way in one presentation, and so in one that is equal to it
-pub end-in_cover : (end : RowedPresentation → (State → ℕ → State) → OverlapOfPlaces → State) (meaning : RowedPresentation → State → ℕ → State)
+pub end-in_cover : (end : RowedPresentation → (State → ℕ → State) → OverlapOfPlaces → State)
+    (meaning : RowedPresentation → State → ℕ → State)
     (T U : TailedPresentation) (o : OverlapOfPlaces) (e f : Element) → e ≡ f → U ≡ T
-    → f.state ≡ end (rowed_presentation U) (meaning (rowed_presentation U)) o → e.state ≡ end (rowed_presentation T) (meaning (rowed_presentation T)) o
+    → f.state ≡ end (rowed_presentation U) (meaning (rowed_presentation U)) o
+    → e.state ≡ end (rowed_presentation T) (meaning (rowed_presentation T)) o
 end-in_cover end meaning T U o e f same presentation reached =
     ap (λ (d : Element). d.state) same
     ∙ subst (λ (V : TailedPresentation). f.state ≡ end (rowed_presentation V) (meaning (rowed_presentation V)) o) presentation reached

@@ -8,7 +8,9 @@ use Rattle.pc_presentation.specs.OverlapNumbers.{AreOverlapNumbers}
 use Rattle.pc_presentation.proofs.consistent.OverlapKinds.{kind_of, latest_of, middle_of, earliest_of}
 use Rattle.consistency.specs.AllOverlaps.{with_smaller, pairs, triples_with, triples, owns, all_overlaps}
 use Rattle.consistency.specs.ConsistencyLaws.{EachOverlapOnce}
-use Rattle.pq_base.proofs.ListMembers.{In, Apart, In-append_left, In-append_right, In-append_cases, In-map, In-map_cases, In-flat_map, In-flat_map_cases, In-numbers, numbers-range, Contains-from_In, In-from_Contains, Apart-append, Apart-map, Apart-flat_map, Apart-numbers, Apart-places}
+use Rattle.pq_base.proofs.ListMembers.{In, Apart, In-append_left, In-append_right, In-append_cases, In-map, In-map_cases, In-flat_map}
+use Rattle.pq_base.proofs.ListMembers.{In-flat_map_cases, In-numbers, numbers-range, Contains-from_In, In-from_Contains, Apart-append}
+use Rattle.pq_base.proofs.ListMembers.{Apart-map, Apart-flat_map, Apart-numbers, Apart-places}
 
 -- an overlap of two numbers up to n
 record IsPair (f : ℕ → ℕ → Overlap) (n : ℕ) (o : Overlap) : Type 0 where
@@ -46,11 +48,13 @@ module _ (f : ℕ → ℕ → Overlap) where
     pairs-apart : (n : ℕ) → Apart (pairs f n)
     pairs-apart n =
         Apart-flat_map (with_smaller f) (numbers_from 1 n)
-        (λ j. Apart-map (f j) (numbers_from 1 (j - 1)) (λ i i' e. sym (earliest j i) ∙ ap earliest_of e ∙ earliest j i') (Apart-numbers 1 (j - 1)))
+        (λ j. Apart-map (f j) (numbers_from 1 (j - 1)) (λ i i' e. sym (earliest j i) ∙ ap earliest_of e ∙ earliest j i')
+        (Apart-numbers 1 (j - 1)))
         (λ j j' o h h'. sym (smaller-middle j o h) ∙ smaller-middle j' o h') (Apart-numbers 1 n)
 
   -- what all pairs have in common
-  pairs-all : (n : ℕ) (property : Overlap → ℕ) (value : ℕ) → ((j i : ℕ) → property (f j i) ≡ value) → (o : Overlap) → In o (pairs f n) → property o ≡ value
+  pairs-all : (n : ℕ) (property : Overlap → ℕ) (value : ℕ) → ((j i : ℕ) → property (f j i) ≡ value) → (o : Overlap) → In o (pairs f n)
+      → property o ≡ value
   pairs-all n property value same o h =
       let p = pairs-only n o h in
       ap property (sym p.same) ∙ same p.j p.i
@@ -85,7 +89,8 @@ triples-kind n o h =
 triples-apart : (n : ℕ) → Apart (triples n)
 triples-apart n =
     Apart-flat_map triples_with (numbers_from 1 n) (λ k. pairs-apart (Triple k) (λ j i. refl) (λ j i. refl) (k - 1))
-    (λ k k' o h h'. sym (pairs-all (Triple k) (k - 1) latest_of k (λ j i. refl) o h) ∙ pairs-all (Triple k') (k' - 1) latest_of k' (λ j i. refl) o h')
+    (λ k k' o h h'. sym (pairs-all (Triple k) (k - 1) latest_of k (λ j i. refl) o h)
+    ∙ pairs-all (Triple k') (k' - 1) latest_of k' (λ j i. refl) o h')
     (Apart-numbers 1 n)
 
 -- powers of one generator

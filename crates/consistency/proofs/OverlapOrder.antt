@@ -28,7 +28,9 @@ from_first_triple (suc zero) h = absurd (omega arith)
 from_first_triple (suc (suc zero)) h = absurd (omega arith)
 from_first_triple (suc (suc (suc n))) h =
     let same : suc (suc (suc n)) - 3 ≡ n = omega arith in
-    ap (λ (m : ℕ). Triple 3 2 1 ∷ (flat_map triples_with (numbers_from 4 m) ++ (pairs Left (suc (suc (suc n))) ++ (pairs Right (suc (suc (suc n))) ++ owns (suc (suc (suc n))))))) same
+    ap (λ (m : ℕ). Triple 3 2 1
+    ∷ (flat_map triples_with (numbers_from 4 m)
+    ++ (pairs Left (suc (suc (suc n))) ++ (pairs Right (suc (suc (suc n))) ++ owns (suc (suc (suc n))))))) same
 
 pub no_triples : (n : ℕ) → n < 3 → triples n ≡ []
 no_triples zero h = refl
@@ -44,11 +46,13 @@ later_triples n k h l =
     let next : suc k ≡ k + 1 = omega arith in
     ap (λ (m : ℕ). flat_map triples_with (numbers_from (suc k) m)) more
     ∙ ap (λ (m : ℕ). triples_with m ++ flat_map triples_with (numbers_from (suc m) (n - (k + 1)))) next
-    ∙ ap (λ (xs : List Overlap). xs ++ flat_map triples_with (numbers_from (suc (k + 1)) (n - (k + 1)))) (pairs_from_first (Triple (k + 1)) ((k + 1) - 1) (omega arith))
+    ∙ ap (λ (xs : List Overlap). xs ++ flat_map triples_with (numbers_from (suc (k + 1)) (n - (k + 1))))
+    (pairs_from_first (Triple (k + 1)) ((k + 1) - 1) (omega arith))
 
 -- behind the last triple with generator k
 pub triple_behind : (n k j i : ℕ) → 2 ≤ k → k < n → pairs_from (Triple k) (k - 1) j i ≡ Triple k j i ∷ []
     → from_overlap n (Triple k j i) ≡ Triple k j i ∷ from_overlap n (Triple (k + 1) 2 1)
 triple_behind n k j i h l last =
-    ap (λ (xs : List Overlap). (xs ++ flat_map triples_with (numbers_from (suc k) (n - k))) ++ (pairs Left n ++ (pairs Right n ++ owns n))) last
+    ap (λ (xs : List Overlap). (xs ++ flat_map triples_with (numbers_from (suc k) (n - k))) ++ (pairs Left n ++ (pairs Right n ++ owns n)))
+    last
     ∙ ap (λ (xs : List Overlap). Triple k j i ∷ (xs ++ (pairs Left n ++ (pairs Right n ++ owns n)))) (later_triples n k h l)

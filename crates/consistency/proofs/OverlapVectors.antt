@@ -22,12 +22,14 @@ one_of_one_generator = refl
 four_of_two_generators : all_overlaps 2 ≡ Left 2 1 ∷ Right 2 1 ∷ Own 1 ∷ Own 2 ∷ []
 four_of_two_generators = refl
 
-ten_of_three_generators : all_overlaps 3 ≡ Triple 3 2 1 ∷ Left 2 1 ∷ Left 3 1 ∷ Left 3 2 ∷ Right 2 1 ∷ Right 3 1 ∷ Right 3 2 ∷ Own 1 ∷ Own 2 ∷ Own 3 ∷ []
+ten_of_three_generators : all_overlaps 3
+    ≡ Triple 3 2 1 ∷ Left 2 1 ∷ Left 3 1 ∷ Left 3 2 ∷ Right 2 1 ∷ Right 3 1 ∷ Right 3 2 ∷ Own 1 ∷ Own 2 ∷ Own 3 ∷ []
 ten_of_three_generators = refl
 
 -- the cover of the dihedral group of order eight, with tails for [a3,a1], [a3,a2], a3^2, a1^2 and a2^2
 abbrev cover_of_order_eight : RowedPresentation
-cover_of_order_eight = rowed_presentation (cover_presentation (record { answer = answer_of_order_eight; sources = all_sources answer_of_order_eight }))
+cover_of_order_eight =
+    rowed_presentation (cover_presentation (record { answer = answer_of_order_eight; sources = all_sources answer_of_order_eight }))
 
 row_of_left : overlap_row cover_of_order_eight (plain_push cover_of_order_eight) (overlap_of (Left 2 1)) ≡ 0 ∷ 1 ∷ 1 ∷ 0 ∷ 0 ∷ []
 unfolding plain_push_from
@@ -51,7 +53,13 @@ one_minus_two_modulo_three = refl
 
 -- a1 squared is a2 and [a2,a1] is a3: the cube of a1 has two values
 abbrev collapsing : RowedPresentation
-collapsing = without_rows (record { prime = 2; rank = 3; powers = (1 ∷ 0 ∷ []) ∷ (0 ∷ []) ∷ [] ∷ []; commutators = [] ∷ ((1 ∷ []) ∷ []) ∷ ([] ∷ [] ∷ []) ∷ [] })
+collapsing =
+    without_rows (record {
+      prime = 2;
+      rank = 3;
+      powers = (1 ∷ 0 ∷ []) ∷ (0 ∷ []) ∷ [] ∷ [];
+      commutators = [] ∷ ((1 ∷ []) ∷ []) ∷ ([] ∷ [] ∷ []) ∷ [];
+    })
 
 left_exponents_of_cube : (left_end collapsing (plain_push collapsing) (overlap_of (Own 1))).exponents ≡ 1 ∷ 1 ∷ 1 ∷ []
 unfolding plain_push_from

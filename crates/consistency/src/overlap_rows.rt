@@ -52,7 +52,8 @@ fn subtract_if_alike(row: &mut Row, left: &Elem, right: &Elem) -> bool
     requires right_prime { right.now.prime ≡ row.old.prime }
     requires right_width { length right.now.state.row ≡ length row.old.entries }
     ensures alike { IsTrue result ↔ left.now.state.exponents ≡ right.now.state.exponents }
-    ensures difference { IsTrue result → row.new ≡ record row.old { entries = difference row.old.prime left.now.state.row right.now.state.row } }
+    ensures difference { IsTrue result
+        → row.new ≡ record row.old { entries = difference row.old.prime left.now.state.row right.now.state.row } }
     ensures zero { IsFalse result → row.new ≡ record row.old { entries = zeros (length row.old.entries) } }
 {
     if left.exponents() != right.exponents() {

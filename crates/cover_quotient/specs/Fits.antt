@@ -21,7 +21,8 @@ spelled_elements T f A = map (value T f) (spelling_words A)
 pub record Fits (T : Table) (f : List ℕ) (c : ℕ) (A : Answer) : Type 0 where
   pub relators : (r : List ℤ) → IsRelatorOf A.presentation r → InLevel T A.presentation.prime c (value T (spelled_elements T f A) r)
   pub images : (i : ℕ) → i < length A.images
-      → InLevel T A.presentation.prime c (times T (inverse T (value T (spelled_elements T f A) (get_or (image_words A) i []))) (get_or f i 0))
+      → InLevel T A.presentation.prime c
+      (times T (inverse T (value T (spelled_elements T f A) (get_or (image_words A) i []))) (get_or f i 0))
 
 -- what a relation or an image fails by
 abbrev pub tail_element : Table → List ℕ → Answer → Source → ℕ

@@ -57,10 +57,12 @@ pub record CoverFits (T : Table) (f : List ℕ) (c : ℕ) (C : CoverOf) : Type 0
       → InLevel T C.answer.presentation.prime (suc c)
       (times T (inverse T (value T (cover_elements T f C) u)) (value T (cover_elements T f C) v))
   -- and the words of rows multiply as the rows add up
-  pub sums : (x y : List ℕ) → IsNormal C.answer.presentation.prime (length C.sources) x → IsNormal C.answer.presentation.prime (length C.sources) y
+  pub sums : (x y : List ℕ) → IsNormal C.answer.presentation.prime (length C.sources) x
+      → IsNormal C.answer.presentation.prime (length C.sources) y
       → InLevel T C.answer.presentation.prime (suc c)
       (times T (inverse T (value T (cover_elements T f C) (tails_word (rowed_cover C) (row_sum C.answer.presentation.prime x y))))
-      (times T (value T (cover_elements T f C) (tails_word (rowed_cover C) x)) (value T (cover_elements T f C) (tails_word (rowed_cover C) y))))
+      (times T (value T (cover_elements T f C) (tails_word (rowed_cover C) x))
+      (value T (cover_elements T f C) (tails_word (rowed_cover C) y))))
 
 -- where the elements fit the answer at level c, and what carries no tail holds up to level c + 1
 abbrev pub CoversFit : Type 0
@@ -74,7 +76,8 @@ DefinitionsHold = (T : Table) (f : List ℕ) (A : Answer) → IsGroup T → AllB
 -- so in a full cover what carries no tail fails by nothing
 abbrev pub FullCoversLeaveNothingOut : Type 0
 FullCoversLeaveNothingOut = (T : Table) (f : List ℕ) (C : CoverOf) → IsGroup T → AllBelow T.size f → IsCover C
-    → C.sources ≡ all_sources C.answer → (d : Source) → IsSourceOf C.answer d → place_in C.sources d ≡ None → tail_element T f C.answer d ≡ 0
+    → C.sources ≡ all_sources C.answer → (d : Source) → IsSourceOf C.answer d → place_in C.sources d ≡ None
+    → tail_element T f C.answer d ≡ 0
 
 -- and it holds up to every level
 abbrev pub FullCoversFit : Type 0

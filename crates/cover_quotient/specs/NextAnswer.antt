@@ -41,7 +41,8 @@ kept_sources C bs = sources_at (kept_columns (length C.sources) bs) C.sources
 -- the cover modulo a reduced basis
 abbrev pub cover_modulo : CoverOf → List BasisRow → RowedAnswer
 cover_modulo C bs =
-    carried_answer (length (kept_columns (length C.sources) bs)) (kept_rows C.answer.presentation.prime (length C.sources) bs) (rowed_cover C)
+    carried_answer (length (kept_columns (length C.sources) bs)) (kept_rows C.answer.presentation.prime (length C.sources) bs)
+    (rowed_cover C)
 
 -- the answer that a reduced basis makes of a cover
 abbrev pub eliminated : CoverOf → List BasisRow → Answer

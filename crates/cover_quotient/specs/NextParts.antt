@@ -35,7 +35,8 @@ pub record IsDraft (A : Answer) (n a b c : ℕ) (D : Draft) : Type 0 where
   pub tails : D.built.tails ≡ 0
   pub side_shape : HasShape A.presentation.rank (sides_of D.built.presentation)
   pub given_shape : HasShape A.presentation.rank D.given
-  pub sides : (r : Relation) → IsRelation A.presentation.rank r → IsAmong n a b c r → right_side D.built.presentation r ≡ right_side A.presentation r
+  pub sides : (r : Relation) → IsRelation A.presentation.rank r → IsAmong n a b c r
+      → right_side D.built.presentation r ≡ right_side A.presentation r
   pub given : (r : Relation) → IsRelation A.presentation.rank r → WasGiven D r → IsAmong n a b c r
 
 -- a draft with the prime and the generators of the answer's presentation, to which the relation wasn't given yet

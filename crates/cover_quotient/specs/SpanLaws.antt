@@ -37,7 +37,8 @@ MappedWords = (Z : RowedPresentation) (s : ℕ) (rows : List (List ℕ)) → IsR
 
 -- over a consistent base, modulo a span that holds the overlap rows, the flat reading is consistent
 abbrev pub QuotientsByOverlapRowsAreConsistent : Type 0
-QuotientsByOverlapRowsAreConsistent = (Z : RowedPresentation) (push : State → ℕ → State) (bs : List BasisRow) → IsRowed Z → IsOffered Z.base.prime
+QuotientsByOverlapRowsAreConsistent =
+    (Z : RowedPresentation) (push : State → ℕ → State) (bs : List BasisRow) → IsRowed Z → IsOffered Z.base.prime
     → IsMeaning Z push → IsConsistent Z.base → IsReduced Z.base.prime Z.width bs → SpanOverlaps Z push (rows_of bs)
     → IsConsistent (flat (carried_presentation (length (kept_columns Z.width bs)) (kept_rows Z.base.prime Z.width bs) Z))
 

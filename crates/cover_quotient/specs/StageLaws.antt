@@ -20,7 +20,8 @@ use Rattle.p_cover.specs.Covers.{CoverOf, IsCover, all_sources, rowed_cover}
 use Rattle.cover_quotient.specs.NextAnswer.{eliminated}
 use Rattle.cover_quotient.specs.AnswerLaws.{kept_count}
 use Rattle.cover_quotient.specs.Defining.{KeptMayBeKept, KeptMayDefine}
-use Rattle.cover_quotient.specs.Stages.{image_numbers, IsStage, IsFitted, IsTrustedBasis, OwesToObeying, IsBasisOfRows, IsLightCover, IsNextStage, IsTower}
+use Rattle.cover_quotient.specs.Stages.{image_numbers, IsStage, IsFitted, IsTrustedBasis, OwesToObeying, IsBasisOfRows, IsLightCover}
+use Rattle.cover_quotient.specs.Stages.{IsNextStage, IsTower}
 
 -- the table of normal words obeys an L-presentation exactly where the answer kills its relators
 abbrev pub TablesObeyWhatIsKilled : Type 0

@@ -85,7 +85,8 @@ abbrev pub IsTrustedOver : Condition → List (List ℕ) → CoverOf → List �
 IsTrustedOver Adm given C x = (T : Table) (f : List ℕ) → IsAdmitted Adm given T f → IsJustified (rowed_cover C) T f x
 
 -- trusted rows over the tails of a cover, and a reduced basis in their span
-pub record IsTrustedBasisOver (Adm : Condition) (given : List (List ℕ)) (C : CoverOf) (rows : List (List ℕ)) (bs : List BasisRow) : Type 0 where
+pub record IsTrustedBasisOver (Adm : Condition) (given : List (List ℕ)) (C : CoverOf) (rows : List (List ℕ))
+    (bs : List BasisRow) : Type 0 where
   pub are : AreRows C.answer.presentation.prime (length C.sources) rows
   pub trusted : All (IsTrustedOver Adm given C) rows
   pub basis : IsBasisIn C rows bs
@@ -101,7 +102,8 @@ pub record IsBasisOfRowsOver (Adm : Condition) (given : List (List ℕ)) (C : Co
   pub trusted : All (IsTrustedOver Adm given C) B.added
 
 -- such a basis for a cover of the stage of class c that owes what it leaves out
-pub record IsStepOver (Adm : Condition) (given : List (List ℕ)) (p c : ℕ) (C : CoverOf) (push : State → ℕ → State) (B : Echelon) : Type 0 where
+pub record IsStepOver (Adm : Condition) (given : List (List ℕ)) (p c : ℕ) (C : CoverOf) (push : State → ℕ → State)
+    (B : Echelon) : Type 0 where
   pub stage : IsStageOver Adm given p c C.answer
   pub class : class_of C.answer ≡ c
   pub owes : OwesWhatItLeavesOut Adm given C

@@ -1,6 +1,8 @@
 //! Laws of the next answer: each function does nothing, and its clause is a theorem.
 
-ghost use Rattle.cover_quotient.specs.AnswerLaws.{QuotientsAreRowedAnswers, NextAnswersAreAnswers, NextAnswersKeepTheClassesBefore, NothingKeptChangesNothing, NextAnswersHaveTheNextClass, NextAnswersAreConsistent, ValuesAreCarried, WordsOfTheSpanDie, NextAnswersKill, SpellingsArePreserved};
+ghost use Rattle.cover_quotient.specs.AnswerLaws.{QuotientsAreRowedAnswers, NextAnswersAreAnswers, NextAnswersKeepTheClassesBefore};
+ghost use Rattle.cover_quotient.specs.AnswerLaws.{NothingKeptChangesNothing, NextAnswersHaveTheNextClass, NextAnswersAreConsistent};
+ghost use Rattle.cover_quotient.specs.AnswerLaws.{ValuesAreCarried, WordsOfTheSpanDie, NextAnswersKill, SpellingsArePreserved};
 
 /// A cover modulo the span of a reduced basis is an answer with rows.
 #[tactic(auto, using(crate::proofs::next_answers::AnswerLaws::quotients_are_rowed_answers))]

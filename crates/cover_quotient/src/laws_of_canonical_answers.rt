@@ -1,7 +1,9 @@
 //! Laws of canonical answers, and of commutators of the levels of a series: each function does nothing, and its clause is a
 //! theorem.
 
-ghost use Rattle.cover_quotient.specs.CanonicalAnswerLaws.{WeightsGiveTheClass, ConsistentAnswersAreReady, CanonicalAnswersHaveNoSmallerClass, HeavyTailsAreTrivial, NextAnswersTakeTurns, NextAnswersAreCanonical, TrivialAnswersAreCanonical};
+ghost use Rattle.cover_quotient.specs.CanonicalAnswerLaws.{WeightsGiveTheClass, ConsistentAnswersAreReady};
+ghost use Rattle.cover_quotient.specs.CanonicalAnswerLaws.{CanonicalAnswersHaveNoSmallerClass, HeavyTailsAreTrivial, NextAnswersTakeTurns};
+ghost use Rattle.cover_quotient.specs.CanonicalAnswerLaws.{NextAnswersAreCanonical, TrivialAnswersAreCanonical};
 
 /// Weights give the class: cut to class k, the presentation of an answer that obeys weights has p-class at most k. The
 /// answer need not be consistent.

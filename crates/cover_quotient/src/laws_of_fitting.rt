@@ -1,6 +1,7 @@
 //! Laws of elements of a group table that fit an answer: each function does nothing, and its clause is a theorem.
 
-ghost use Rattle.cover_quotient.specs.FittingLaws.{FitsAtZero, FitsFactors, CoversFit, DefinitionsHold, FullCoversLeaveNothingOut, FullCoversFit, ImagesAreExact, JustifiedRowsFit, OneClassFits, NoTailKeptFits};
+ghost use Rattle.cover_quotient.specs.FittingLaws.{FitsAtZero, FitsFactors, CoversFit, DefinitionsHold, FullCoversLeaveNothingOut};
+ghost use Rattle.cover_quotient.specs.FittingLaws.{FullCoversFit, ImagesAreExact, JustifiedRowsFit, OneClassFits, NoTailKeptFits};
 
 /// All elements of a group table, one for each given generator, fit each answer at level 0 of the series.
 #[tactic(auto, using(crate::proofs::fitting::FitsStart::fits_at_zero))]

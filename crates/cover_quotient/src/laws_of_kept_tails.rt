@@ -1,6 +1,7 @@
 //! Laws of the tails that a step keeps: each function does nothing, and its clause is a theorem.
 
-ghost use Rattle.cover_quotient.specs.KeptTailLaws.{KeptImagesMayDefine, KeptTailsMayDefine, KeptTailsOfLargestQuotientsMayDefine, NextAnswersAreReady};
+ghost use Rattle.cover_quotient.specs.KeptTailLaws.{KeptImagesMayDefine, KeptTailsMayDefine, KeptTailsOfLargestQuotientsMayDefine};
+ghost use Rattle.cover_quotient.specs.KeptTailLaws.{NextAnswersAreReady};
 
 /// At class 0 each tail of the full cover comes from an image, so each kept one may define a generator.
 pub fn kept_images_may_define()

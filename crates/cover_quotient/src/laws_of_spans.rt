@@ -1,6 +1,7 @@
 //! Laws of rows modulo a span: each function does nothing, and its clause is a theorem.
 
-ghost use Rattle.cover_quotient.specs.SpanLaws.{MappedWords, QuotientsByOverlapRowsAreConsistent, TrivialRowsAreInTheSpan, CombinationsOfTrivialRowsAreTrivial, TrivialRowsAreTheSpan};
+ghost use Rattle.cover_quotient.specs.SpanLaws.{MappedWords, QuotientsByOverlapRowsAreConsistent, TrivialRowsAreInTheSpan};
+ghost use Rattle.cover_quotient.specs.SpanLaws.{CombinationsOfTrivialRowsAreTrivial, TrivialRowsAreTheSpan};
 
 /// Where the tails of a presentation with rows are replaced by the words of rows, joined words stay joined in the
 /// presentation with its rows carried, and the word of a row is joined to the word of the row that it is carried to.

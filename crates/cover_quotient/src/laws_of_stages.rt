@@ -1,6 +1,10 @@
 //! Laws of the stages of a tower: each function does nothing, and its clause is a theorem.
 
-ghost use Rattle.cover_quotient.specs.StageLaws.{TablesObeyWhatIsKilled, TrivialAnswersAreStages, StagesAreLargest, StagesHaveTheirClass, StagesHaveNoSmallerClass, StagesOfMoreRelators, FullCoversOwe, LightCoversOwe, StagesAreFitted, NextAnswersAreFitted, FittedAnswersStay, FittedAnswersAreLargest, KeptTailsOfStagesMayDefine, NextAnswersAreStages, StagesStay, TowersStart, TowersGrow, TowersStay, TowersBoundOrders};
+ghost use Rattle.cover_quotient.specs.StageLaws.{TablesObeyWhatIsKilled, TrivialAnswersAreStages, StagesAreLargest, StagesHaveTheirClass};
+ghost use Rattle.cover_quotient.specs.StageLaws.{StagesHaveNoSmallerClass, StagesOfMoreRelators, FullCoversOwe, LightCoversOwe};
+ghost use Rattle.cover_quotient.specs.StageLaws.{StagesAreFitted, NextAnswersAreFitted, FittedAnswersStay, FittedAnswersAreLargest};
+ghost use Rattle.cover_quotient.specs.StageLaws.{KeptTailsOfStagesMayDefine, NextAnswersAreStages, StagesStay, TowersStart, TowersGrow};
+ghost use Rattle.cover_quotient.specs.StageLaws.{TowersStay, TowersBoundOrders};
 
 /// The table of normal words of a consistent answer, with the elements of its images, obeys an L-presentation exactly where the
 /// answer kills its relators.

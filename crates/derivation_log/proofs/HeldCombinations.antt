@@ -1,6 +1,7 @@
 -- The lines of a held step make of its cover what its basis makes: a tail with a line becomes the representative of the tail modulo the
 -- basis, and the tails without one are those without a pivot.
-use Rattle.std.proofs.Common.{◌≡◌, ◌+◌, ◌-◌, ◌<◌, ◌≤◌, ℕ, zero, suc, Bool, true, false, not, cond, eqb, ◌||◌, List, [], ◌∷◌, length, map, filter, refl, ap, ap₂, sym, ◌∙◌, subst, arith, eq-eqb, ne_eqb, inl, inr}
+use Rattle.std.proofs.Common.{◌≡◌, ◌+◌, ◌-◌, ◌<◌, ◌≤◌, ℕ, zero, suc, Bool, true, false, not, cond, eqb, ◌||◌, List, [], ◌∷◌, length, map}
+use Rattle.std.proofs.Common.{filter, refl, ap, ap₂, sym, ◌∙◌, subst, arith, eq-eqb, ne_eqb, inl, inr}
 use Rattle.std.proofs.lemmas.Bool.{cases_eq, cond_both, false_from_ne_true}
 use Rattle.std.specs.List.{All}
 use Rattle.pq_base.specs.Limits.{max_rank}

@@ -1,6 +1,7 @@
 -- The lines of held steps keep the conditions of the text of certificates: pivots rise; the other entries of a basis row that aren't 0
 -- stand before its pivot, at columns without a pivot; and a basis row isn't 0, so that some coefficient isn't.
-use Rattle.std.proofs.Common.{◌≡◌, ◌≢◌, ◌+◌, ◌-◌, ◌<◌, ◌≤◌, ◌%◌, ℕ, zero, suc, Bool, true, false, eqb, ltb, cond, ◌||◌, List, [], ◌∷◌, get_or, length, map, filter, refl, ap, ap₂, sym, ◌∙◌, subst, arith, ne_eqb, eq-eqb, mod-lt, inl, inr}
+use Rattle.std.proofs.Common.{◌≡◌, ◌≢◌, ◌+◌, ◌-◌, ◌<◌, ◌≤◌, ◌%◌, ℕ, zero, suc, Bool, true, false, eqb, ltb, cond, ◌||◌, List, [], ◌∷◌}
+use Rattle.std.proofs.Common.{get_or, length, map, filter, refl, ap, ap₂, sym, ◌∙◌, subst, arith, ne_eqb, eq-eqb, mod-lt, inl, inr}
 use Rattle.std.proofs.Math.Nat.{mod_self}
 use Rattle.std.proofs.lemmas.Bool.{cases_lt, cond_both, lt-ltb, false_from_ne_true}
 use Rattle.pq_base.specs.Elementary.{zeros}

@@ -1,6 +1,7 @@
 -- Each line of a held step is the sum of the rows that were added: its coefficients make the basis row, which is the tail minus what
 -- the line says it equals.
-use Rattle.std.proofs.Common.{◌≡◌, ◌+◌, ◌-◌, ◌*◌, ◌%◌, ◌<◌, ◌≤◌, ℕ, zero, suc, Bool, cond, List, ◌∷◌, get_or, length, map, filter, ap, ap₂, sym, ◌∙◌, subst, arith, eq-eqb, ne_eqb, mod-eq_of_lt, zero-add, mul-zero, inl, inr}
+use Rattle.std.proofs.Common.{◌≡◌, ◌+◌, ◌-◌, ◌*◌, ◌%◌, ◌<◌, ◌≤◌, ℕ, zero, suc, Bool, cond, List, ◌∷◌, get_or, length, map, filter, ap, ap₂}
+use Rattle.std.proofs.Common.{sym, ◌∙◌, subst, arith, eq-eqb, ne_eqb, mod-eq_of_lt, zero-add, mul-zero, inl, inr}
 use Rattle.std.proofs.Math.Nat.{mul-suc, suc-mul, add-mul-mod_self_left}
 use Rattle.std.proofs.lemmas.Bool.{cases_eq, cond_both}
 use Rattle.std.specs.List.{All}

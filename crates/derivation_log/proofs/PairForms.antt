@@ -1,5 +1,6 @@
 -- Pairs of successive numbers, with coefficients that aren't 0, keep the conditions of the text of certificates.
-use Rattle.std.proofs.Common.{◌≡◌, ◌≢◌, ◌+◌, ◌<◌, ◌≤◌, ℕ, zero, suc, Bool, true, false, not, ◌&&◌, List, [], ◌++◌, refl, ap, ap₂, subst, arith, inl, inr}
+use Rattle.std.proofs.Common.{◌≡◌, ◌≢◌, ◌+◌, ◌<◌, ◌≤◌, ℕ, zero, suc, Bool, true, false, not, ◌&&◌, List, [], ◌++◌, refl, ap, ap₂, subst}
+use Rattle.std.proofs.Common.{arith, inl, inr}
 use Rattle.std.proofs.lemmas.Bool.{cases_eq, cases_lt, le-leb, lt-ltb}
 use Rattle.pq_base.specs.Canonical.{numbers_from}
 use Rattle.derivation_log.specs.Certificates.{TailLine}

@@ -1,6 +1,7 @@
 -- A run of held steps over the plain rule, written as lines, passes what is judged of its steps but for the ranks, reaches its class, and
 -- builds the answer that the held steps lead to.
-use Rattle.std.proofs.Common.{◌≡◌, ◌⊎◌, ◌-◌, ◌<◌, ◌≤◌, ℕ, zero, suc, List, [], ◌∷◌, ◌++◌, get_or, length, refl, ap, ap₂, sym, ◌∙◌, subst, arith, inl, inr, append-nil}
+use Rattle.std.proofs.Common.{◌≡◌, ◌⊎◌, ◌-◌, ◌<◌, ◌≤◌, ℕ, zero, suc, List, [], ◌∷◌, ◌++◌, get_or, length, refl, ap, ap₂, sym, ◌∙◌, subst}
+use Rattle.std.proofs.Common.{arith, inl, inr, append-nil}
 use Rattle.std.proofs.lemmas.Bool.{cases_lt}
 use Rattle.std.proofs.lemmas.List.{length-append, length-map}
 use Rattle.std.proofs.Math.Seq.{get_or-append_seam}
@@ -25,7 +26,8 @@ use Rattle.derivation_log.specs.HeldLines.{held_lines, IsTold, AreLinesOf}
 use Rattle.derivation_log.proofs.RowSources.{rows_of-at}
 use Rattle.derivation_log.proofs.HeldSums.{held_lines_are_sums}
 use Rattle.derivation_log.proofs.HeldCombinations.{held_lines_make_what_the_basis_makes}
-use Rattle.derivation_log.proofs.BuiltRuns.{answer_of, held-at, next-none, line-at, step-is, step-told, built-kept, cover-is, not_extra, told-at}
+use Rattle.derivation_log.proofs.BuiltRuns.{answer_of, held-at, next-none, line-at, step-is, step-told, built-kept, cover-is, not_extra}
+use Rattle.derivation_log.proofs.BuiltRuns.{told-at}
 
 -- what is judged of step k of a run before the rank
 pub record PassesStep (kind : CertificateKind) (c : Certificate) (run : Run) (k : ℕ) : Type 0 where

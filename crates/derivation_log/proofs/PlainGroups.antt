@@ -1,12 +1,14 @@
 -- Elements of an answer by the plain rule. Their powers are joined to the powers of their words. In a consistent answer they are equal
 -- where their words are joined, each word has one, and a word has a value under elements where its word under theirs is joined to the
 -- value's.
-use Rattle.std.proofs.Common.{◌≡◌, ℕ, zero, suc, ◌<◌, ℤ, List, [], ◌∷◌, ◌++◌, length, get_or, map, refl, ap, ap₂, sym, ◌∙◌, subst, arith, append_assoc}
+use Rattle.std.proofs.Common.{◌≡◌, ℕ, zero, suc, ◌<◌, ℤ, List, [], ◌∷◌, ◌++◌, length, get_or, map, refl, ap, ap₂, sym, ◌∙◌, subst, arith}
+use Rattle.std.proofs.Common.{append_assoc}
 use Rattle.pq_base.specs.SignedWord.{copies, comm, sub, HasLetters}
 use Rattle.pq_base.specs.Presentation.{Presentation, IsNormal, normal_word}
 use Rattle.pq_base.specs.Joined.{Joined, IsConsistent}
 use Rattle.pq_base.specs.Answer.{Answer, IsAnswer, AreNormal, image_words}
-use Rattle.pq_base.proofs.words.JoinedLaws.{joined-sym, joined-trans, joined-from_equal, joined-append, joined-append_right, append-swap-joined}
+use Rattle.pq_base.proofs.words.JoinedLaws.{joined-sym, joined-trans, joined-from_equal, joined-append, joined-append_right}
+use Rattle.pq_base.proofs.words.JoinedLaws.{append-swap-joined}
 use Rattle.pq_base.proofs.words.WordLaws.{append-copies}
 use Rattle.pc_presentation.specs.Rowed.{RowedPresentation, IsRowed, without_rows, flat}
 use Rattle.pc_presentation.specs.Collection.{State, IsState, plain_push, letters, spelled}

@@ -10,7 +10,8 @@ use Rattle.pq_base.specs.Answer.{Answer, IsAnswer, image_words}
 use Rattle.pq_base.proofs.words.WordLaws.{sub-sub, sub-inv, sub-append}
 use Rattle.pq_base.proofs.words.JoinedLaws.{joined-sym, joined-trans, joined-quotient, joined-from_equal}
 use Rattle.pq_base.proofs.words.WordGroup.{joined-sub, joined-sub_same}
-use Rattle.pq_base.proofs.words.LetterLaws.{HasLetters-copies, HasLetters-comm, HasLetters-letter, HasLetters-power_word, HasLetters-commutator_word}
+use Rattle.pq_base.proofs.words.LetterLaws.{HasLetters-copies, HasLetters-comm, HasLetters-letter, HasLetters-power_word}
+use Rattle.pq_base.proofs.words.LetterLaws.{HasLetters-commutator_word}
 use Rattle.cover_quotient.proofs.fitting.TailValues.{image_word-letters}
 use Rattle.pc_presentation.specs.Rowed.{without_rows}
 use Rattle.pc_presentation.specs.Collection.{State}

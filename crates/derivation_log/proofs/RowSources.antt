@@ -34,7 +34,8 @@ source_word-letters L is (Iterated i s) =
     HasLetters-along (length L.names) L.endos s (get_or L.iterated (i - 1) []) is.endo_words
     (HasLetters-get_or (length L.names) L.iterated (i - 1) is.iterated_words)
 
-module _ (C : CoverOf) (cover : IsCover C) (push : State → ℕ → State) (meaning : IsMeaning (rowed_presentation (cover_presentation C)) push) where
+module _ (C : CoverOf) (cover : IsCover C) (push : State → ℕ → State)
+    (meaning : IsMeaning (rowed_presentation (cover_presentation C)) push) where
   pub cover-rowed : IsRowed (rowed_presentation (cover_presentation C))
   cover-rowed = (covers_are_rowed_answers C.answer C.sources cover.answer cover.sources).0.presentation
 
@@ -57,16 +58,19 @@ module _ (C : CoverOf) (cover : IsCover C) (push : State → ℕ → State) (mea
         → Joined (flat (rowed (rowed_cover C))) (sub (source_word L s) (rowed_images (rowed_cover C))) (tails_word (rowed_cover C) x)
     row_of_source-joined (Test o) x h = joined-sym (row_of_overlap-trivial L o x h.numbers h.row)
     row_of_source-joined (Fixed i) x h =
-        row_of_word-joined C cover push meaning (source_word L (Fixed i)) (letters (source_word L (Fixed i)) (source_word-letters L is (Fixed i))) x h.row
+        row_of_word-joined C cover push meaning (source_word L (Fixed i))
+        (letters (source_word L (Fixed i)) (source_word-letters L is (Fixed i))) x h.row
     row_of_source-joined (Iterated i []) x h =
-        row_of_word-joined C cover push meaning (source_word L (Iterated i [])) (letters (source_word L (Iterated i [])) (source_word-letters L is (Iterated i []))) x h.row
+        row_of_word-joined C cover push meaning (source_word L (Iterated i []))
+        (letters (source_word L (Iterated i [])) (source_word-letters L is (Iterated i []))) x h.row
     row_of_source-joined (Iterated i (e ∷ s)) x h =
         let a = h.numbers in
         let relator : List ℤ = get_or L.iterated (i - 1) [] in
         row_along-joined C cover push meaning L.endos endos_of (e ∷ s) a.2 relator
         (letters relator (HasLetters-get_or (length L.names) L.iterated (i - 1) is.iterated_words)) x h.row
 
-    pub row_of_source-justified : (T : Table) (f : List ℕ) (s : RowSource) (x : List ℕ) → value T f (source_word L s) ≡ 0 → IsRowOf L C push s x
+    pub row_of_source-justified : (T : Table) (f : List ℕ) (s : RowSource) (x : List ℕ) → value T f (source_word L s) ≡ 0
+        → IsRowOf L C push s x
         → IsJustified (rowed_cover C) T f x
     row_of_source-justified T f s x none h =
         inr (record { word = source_word L s; joined = joined-sym (row_of_source-joined s x h); zero = none })
@@ -82,7 +86,8 @@ source_word-zero L T f kills n (Iterated i s) h =
 
 module _ (L : LPresentation) (C : CoverOf) (push : State → ℕ → State) where
   -- one row more
-  pub rows_of-push : (ss : List RowSource) (xs : List (List ℕ)) (s : RowSource) (x : List ℕ) → AreRowsOf L C push ss xs → IsRowOf L C push s x
+  pub rows_of-push : (ss : List RowSource) (xs : List (List ℕ)) (s : RowSource) (x : List ℕ) → AreRowsOf L C push ss xs
+      → IsRowOf L C push s x
       → AreRowsOf L C push (ss ++ s ∷ []) (xs ++ x ∷ [])
   rows_of-push [] [] s x all one = (one, tt)
   rows_of-push [] (y ∷ xs) s x all one = absurd all
@@ -96,7 +101,8 @@ module _ (L : LPresentation) (C : CoverOf) (push : State → ℕ → State) wher
   rows_of-length (s ∷ ss) (x ∷ xs) all = ap suc (rows_of-length ss xs all.1)
 
   -- the n-th row is that of the n-th source
-  pub rows_of-at : (ss : List RowSource) (xs : List (List ℕ)) (n : ℕ) (d : RowSource) (e : List ℕ) → AreRowsOf L C push ss xs → suc n ≤ length ss
+  pub rows_of-at : (ss : List RowSource) (xs : List (List ℕ)) (n : ℕ) (d : RowSource) (e : List ℕ) → AreRowsOf L C push ss xs
+      → suc n ≤ length ss
       → IsRowOf L C push (get_or ss n d) (get_or xs n e)
   rows_of-at [] xs n d e all l = absurd (omega arith)
   rows_of-at (s ∷ ss) [] n d e all l = absurd all

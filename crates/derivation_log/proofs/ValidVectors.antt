@@ -1,6 +1,7 @@
 -- A certificate that is valid: that the group of order two is the largest quotient of class 3 of the group of one involution. Its
 -- second step keeps no tail, so there is no third. Behind it changes after which it isn't valid.
-use Rattle.std.proofs.Common.{◌≡◌, ◌≢◌, ◌<◌, ◌≤◌, ◌-◌, ℕ, zero, suc, pos, List, [], ◌∷◌, ◌++◌, get_or, length, refl, ap, sym, subst, arith, lit<, lit≤, inl, inr}
+use Rattle.std.proofs.Common.{◌≡◌, ◌≢◌, ◌<◌, ◌≤◌, ◌-◌, ℕ, zero, suc, pos, List, [], ◌∷◌, ◌++◌, get_or, length, refl, ap, sym, subst, arith}
+use Rattle.std.proofs.Common.{lit<, lit≤, inl, inr}
 use Rattle.std.specs.List.{All}
 use Rattle.std.proofs.lemmas.List.Elements.{All-nil, All-cons, All-append}
 use Rattle.pq_base.specs.Limits.{max_rank}
@@ -37,7 +38,8 @@ use Rattle.derivation_log.specs.HeldRuns.{IsTestedSource}
 use Rattle.derivation_log.specs.Certificates.{TailLine, StepLines, Certificate}
 use Rattle.derivation_log.specs.CertificateRuns.{cover_at, kept_at}
 use Rattle.derivation_log.specs.PlainValues.{IsCarriedToIdentity, images_of, bare_state}
-use Rattle.derivation_log.specs.CertificateParts.{full_kind, IsNotExtra, HasPlainRow, HavePlainRows, IsSumOfRows, AreSumsOfRows, GiveAnswer, OverlapsAgree, AreCarriedToIdentity}
+use Rattle.derivation_log.specs.CertificateParts.{full_kind, IsNotExtra, HasPlainRow, HavePlainRows, IsSumOfRows, AreSumsOfRows, GiveAnswer}
+use Rattle.derivation_log.specs.CertificateParts.{OverlapsAgree, AreCarriedToIdentity}
 use Rattle.derivation_log.specs.Validity.{Trial, Keeps, Passes, trials, IsValid, FirstPart}
 
 abbrev of_involution : Certificate

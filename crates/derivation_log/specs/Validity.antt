@@ -11,7 +11,8 @@ use Rattle.derivation_log.specs.declared.part.Part.TheVariants as part
 use Rattle.derivation_log.specs.Certificates.{Certificate, has_two_runs, steps_of, step_of, presentation_of}
 use Rattle.derivation_log.specs.CertificateRuns.{cover_at}
 use Rattle.derivation_log.specs.PlainValues.{MakeMap, InducesPlainly, images_of}
-use Rattle.derivation_log.specs.CertificateParts.{CertificateKind, IsNotExtra, HavePlainRows, AreSumsOfRows, GiveAnswer, IsNotShort, OverlapsAgree, AreCarriedToIdentity, built_by}
+use Rattle.derivation_log.specs.CertificateParts.{CertificateKind, IsNotExtra, HavePlainRows, AreSumsOfRows, GiveAnswer, IsNotShort}
+use Rattle.derivation_log.specs.CertificateParts.{OverlapsAgree, AreCarriedToIdentity, built_by}
 
 -- a part that is judged: in which run, and at which class
 pub record Trial : Type 0 where

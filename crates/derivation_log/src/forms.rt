@@ -3,7 +3,9 @@
 ghost use Rattle.std.specs.Prelude.{◌≡◌, ◌↔◌, ◌++◌, ◌∷◌, [], true, IsTrue};
 ghost use Rattle.pq_base.specs.Prime.{prime_value};
 ghost use Rattle.derivation_log.specs.Certificates.{has_two_runs};
-ghost use Rattle.derivation_log.specs.CertificateForms.{first_version, is_number_from, are_pairs, are_at_most, has_line, are_kept_below, is_tail_line, are_tail_lines, AreRising, least_behind, is_written_overlap, are_each_one_of, is_source_in, are_sources_in, are_steps_in, IsCertificate};
+ghost use Rattle.derivation_log.specs.CertificateForms.{first_version, is_number_from, are_pairs, are_at_most, has_line, are_kept_below};
+ghost use Rattle.derivation_log.specs.CertificateForms.{is_tail_line, are_tail_lines, AreRising, least_behind, is_written_overlap};
+ghost use Rattle.derivation_log.specs.CertificateForms.{are_each_one_of, is_source_in, are_sources_in, are_steps_in, IsCertificate};
 
 use crate::source::{RowSource, Run};
 use crate::step_lines::CertStep;

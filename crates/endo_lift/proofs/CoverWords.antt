@@ -24,7 +24,8 @@ use Rattle.cover_quotient.proofs.fitting.TailValues.{with_tails, get_or-tail}
 use Rattle.cover_quotient.proofs.fitting.CoverValues.{entry_elements}
 use Rattle.cover_quotient.proofs.fitting.JustifiedValues.{substituted-value}
 use Rattle.cover_quotient.proofs.kept_tails.KeptValues.{AreCentral, cover-joined}
-use Rattle.endo_lift.proofs.RangedWords.{within, ranged_group, value_in-ranged, power_in-ranged, joined-from_ranged, ranged-from_joined, ranged-central}
+use Rattle.endo_lift.proofs.RangedWords.{within, ranged_group, value_in-ranged, power_in-ranged, joined-from_ranged, ranged-from_joined}
+use Rattle.endo_lift.proofs.RangedWords.{ranged-central}
 
 -- a central word of order p
 pub record IsCentralOfOrder (Q : Presentation) (p : ℕ) (z : List ℤ) : Type 0 where

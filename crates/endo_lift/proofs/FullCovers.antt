@@ -1,6 +1,7 @@
 -- What a full cover leaves out defines a generator. So its row is the row of zeros, and its word dies under any images, since both
 -- sides of its relation are spelled alike.
-use Rattle.std.proofs.Common.{◌≡◌, ◌<◌, ◌-◌, ◌||◌, ℕ, suc, Bool, true, false, None, Some, ℤ, List, [], ◌∷◌, ◌++◌, get_or, length, ap, sym, ◌∙◌, inl, inr, arith}
+use Rattle.std.proofs.Common.{◌≡◌, ◌<◌, ◌-◌, ◌||◌, ℕ, suc, Bool, true, false, None, Some, ℤ, List, [], ◌∷◌, ◌++◌, get_or, length, ap, sym}
+use Rattle.std.proofs.Common.{◌∙◌, inl, inr, arith}
 use Rattle.std.specs.List.{Contains}
 use Rattle.std.proofs.lemmas.Bool.{cases_Bool, false≢true}
 use Rattle.std.proofs.lemmas.List.{get_or_default}

@@ -1,7 +1,8 @@
 -- Where each row of a matrix is the value of the image of the word that its tail stands for, and the images of the words of what a
 -- cover leaves out die in the cover, rows times the matrix are the rows of the words' images. For joined words stay joined where the
 -- generators become the images of what they spell, and the tails the words of the matrix's rows.
-use Rattle.std.proofs.Common.{◌≡◌, ℕ, zero, suc, ◌+◌, ◌-◌, ◌<◌, Option, None, Some, ℤ, List, [], ◌∷◌, get_or, length, map, inl, inr, refl, ap, sym, ◌∙◌, subst, arith}
+use Rattle.std.proofs.Common.{◌≡◌, ℕ, zero, suc, ◌+◌, ◌-◌, ◌<◌, Option, None, Some, ℤ, List, [], ◌∷◌, get_or, length, map, inl, inr, refl}
+use Rattle.std.proofs.Common.{ap, sym, ◌∙◌, subst, arith}
 use Rattle.std.proofs.lemmas.Bool.{cases_lt}
 use Rattle.std.proofs.lemmas.List.{length-map, get_or_append_left}
 use Rattle.std.proofs.Math.ListN.{get_or-map}

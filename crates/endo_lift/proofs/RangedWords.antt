@@ -6,7 +6,8 @@ use Rattle.pq_base.specs.SignedWord.{inv, copies, image_of, sub, HasLetters}
 use Rattle.pq_base.specs.Presentation.{Presentation}
 use Rattle.pq_base.specs.Joined.{Joined}
 use Rattle.pq_base.proofs.words.WordLaws.{sub-append, sub-inv}
-use Rattle.pq_base.proofs.words.JoinedLaws.{joined-refl, joined-sym, joined-trans, joined-append, joined-inv, joined-from_equal, append-inv-joined, inv-append-joined}
+use Rattle.pq_base.proofs.words.JoinedLaws.{joined-refl, joined-sym, joined-trans, joined-append, joined-inv, joined-from_equal}
+use Rattle.pq_base.proofs.words.JoinedLaws.{append-inv-joined, inv-append-joined}
 use Rattle.pq_base.proofs.words.RangeLaws.{generators, sub-generators, HasLetters-sub_generators}
 use Rattle.pq_base.proofs.words.CentralWords.{IsCentral}
 use Rattle.pq_base.proofs.groups.Groups.{Group, element_in, value_in, power_in}

@@ -1,7 +1,8 @@
 -- Over a consistent answer an element that is the value of a word which dies in the answer lies in the tails alone, so its row is
 -- the row of the word. The words that tails stand for die, and where the endomorphism induces one of the answer their images die
 -- too: so the rows of their values are the image rows.
-use Rattle.std.proofs.Common.{◌≡◌, ℕ, zero, suc, ◌+◌, ◌-◌, ◌<◌, ◌≤◌, ℤ, List, [], ◌∷◌, ◌≢◌, get_or, length, set, replicate, ap, sym, ◌∙◌, subst, arith, inl, inr}
+use Rattle.std.proofs.Common.{◌≡◌, ℕ, zero, suc, ◌+◌, ◌-◌, ◌<◌, ◌≤◌, ℤ, List, [], ◌∷◌, ◌≢◌, get_or, length, set, replicate, ap, sym, ◌∙◌}
+use Rattle.std.proofs.Common.{subst, arith, inl, inr}
 use Rattle.std.proofs.lemmas.Bool.{cases_lt}
 use Rattle.std.proofs.lemmas.List.{length-set, get_or-set_same, get_or-set_other, length-replicate}
 use Rattle.pq_base.specs.SignedWord.{sub}

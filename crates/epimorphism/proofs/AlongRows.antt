@@ -1,6 +1,7 @@
 -- Images of a cover are carried along endomorphisms in the room that work has, and what is found under them is the row of the
 -- word along them.
-use Rattle.std.proofs.Common.{◌≡◌, ◌↔◌, ◌<◌, ◌+◌, ℕ, zero, suc, Bool, IsTrue, ℤ, List, [], ◌∷◌, get_or, length, take, ap, sym, ◌∙◌, subst, arith}
+use Rattle.std.proofs.Common.{◌≡◌, ◌↔◌, ◌<◌, ◌+◌, ℕ, zero, suc, Bool, IsTrue, ℤ, List, [], ◌∷◌, get_or, length, take, ap, sym, ◌∙◌, subst}
+use Rattle.std.proofs.Common.{arith}
 use Rattle.std.proofs.lemmas.List.{take_more}
 use Rattle.pq_base.specs.LPresentation.{AreEndoNumbers, endo_at}
 use Rattle.pq_base.specs.Elementary.{zeros}
@@ -27,7 +28,8 @@ AreEndoNumbers-get_or m (suc e ∷ s) zero d h l = (h.0, tt)
 AreEndoNumbers-get_or m (suc e ∷ s) (suc i) d h l = AreEndoNumbers-get_or m s i d h.1 (omega arith)
 
 -- the images of the cover fit in the first place
-module _ (C : CoverOf) (is : IsCover C) (push : State → ℕ → State) (f : ImagesOf) (lifted : AreLifted C push f) (w : Rooms) (work : IsWork C w) where
+module _ (C : CoverOf) (is : IsCover C) (push : State → ℕ → State) (f : ImagesOf) (lifted : AreLifted C push f) (w : Rooms)
+    (work : IsWork C w) where
   pub lifted-elements_alike : AreAlike f.elements w.first.elements
   lifted-elements_alike = record {
     presentation = cover_presentation C;
@@ -73,14 +75,16 @@ module _ (C : CoverOf) (push : State → ℕ → State) where
   pub exchanged-work : (w v : Rooms) (h : ImagesOf) (n : ℕ) → IsWork C w → IsRoom (cover_presentation C) n h → n ≡ length C.answer.names
       → v.first ≡ h → v.second ≡ w.first → IsWork C v
   exchanged-work w v h n work room count a b =
-      let fits : IsRoom (cover_presentation C) (length C.answer.names) h = subst (λ (m : ℕ). IsRoom (cover_presentation C) m h) count room in
+      let fits : IsRoom (cover_presentation C) (length C.answer.names) h =
+      subst (λ (m : ℕ). IsRoom (cover_presentation C) m h) count room in
       record {
         first = subst (IsRoom (cover_presentation C) (length C.answer.names)) (sym a) fits;
         second = subst (IsRoom (cover_presentation C) (length C.answer.names)) (sym b) work.first;
       }
 
 -- the same presentation and the same lists
-pub images-at : (meaning : RowedPresentation → State → ℕ → State) (S T : TailedPresentation) (f g d e : List Element) → T ≡ S → d ≡ f → e ≡ g
+pub images-at : (meaning : RowedPresentation → State → ℕ → State) (S T : TailedPresentation) (f g d e : List Element) → T ≡ S → d ≡ f
+    → e ≡ g
     → AreImageElements S (meaning (rowed_presentation S)) f g → AreImageElements T (meaning (rowed_presentation T)) d e
 images-at meaning S T f g d e t p q images =
     let there : AreImageElements T (meaning (rowed_presentation T)) f g =
@@ -90,7 +94,8 @@ images-at meaning S T f g d e t p q images =
     subst (λ (es : List Element). AreImageElements T (meaning (rowed_presentation T)) d es) (sym q) left
 
 -- composed images d and e, by what the calls before it say: g are the values, and h the inverses
-pub composed-from : (C : CoverOf) (meaning : RowedPresentation → State → ℕ → State) (f : ImagesOf) (endo : List (List ℤ)) (S T : TailedPresentation)
+pub composed-from : (C : CoverOf) (meaning : RowedPresentation → State → ℕ → State) (f : ImagesOf) (endo : List (List ℤ))
+    (S T : TailedPresentation)
     (g h d e es : List Element) → S ≡ cover_presentation C → T ≡ cover_presentation C
     → g ≡ value_elements S (meaning (rowed_presentation S)) f.elements f.inverses endo → es ≡ g
     → AreImageElements T (meaning (rowed_presentation T)) es h → d ≡ g → e ≡ h
@@ -103,10 +108,13 @@ composed-from C meaning f endo S T g h d e es s t values same images p q = recor
 -- what is found, by what the calls before it say: images g were carried, an element e is the value under them, and b and x are
 -- made from it
 pub found_along-from : (C : CoverOf) (meaning : RowedPresentation → State → ℕ → State) (endos : List (List (List ℤ))) (f g : ImagesOf)
-    (path : List ℕ) (w : List ℤ) (b : Bool) (x : List ℕ) (T : TailedPresentation) (fs gs : List Element) (u : List ℤ) (s : Workspace) (e : Element)
+    (path : List ℕ) (w : List ℤ) (b : Bool) (x : List ℕ) (T : TailedPresentation) (fs gs : List Element) (u : List ℤ) (s : Workspace)
+    (e : Element)
     → AreCarried C (meaning (rowed_presentation (cover_presentation C))) endos f path g
     → T ≡ cover_presentation C → fs ≡ g.elements → gs ≡ g.inverses → u ≡ w → IsScratch T s
-    → s.left.state ≡ evaluate_from (rowed_presentation T) (meaning (rowed_presentation T)) (states_of fs) (states_of gs) (identity (rowed_presentation T) T.presentation.rank) u
+    → s.left.state
+    ≡ evaluate_from (rowed_presentation T) (meaning (rowed_presentation T)) (states_of fs) (states_of gs)
+    (identity (rowed_presentation T) T.presentation.rank) u
     → e ≡ s.left → IsTrue b ↔ e.state.exponents ≡ zeros (length e.state.exponents) → (IsTrue b → x ≡ e.state.row)
     → IsFoundAlong C (meaning (rowed_presentation (cover_presentation C))) endos f path w b x
 found_along-from C meaning endos f g path w b x T fs gs u s e carried t fq gq uq scratch value eq d r =

@@ -26,12 +26,14 @@ exchanged_images = record {
       ∷ [];
 }
 
-images_exchanged : composed_elements cover_of_order_eight (plain_push (rowed_presentation (cover_presentation cover_of_order_eight))) images_of_order_eight exchange
+images_exchanged : composed_elements cover_of_order_eight (plain_push (rowed_presentation (cover_presentation cover_of_order_eight)))
+    images_of_order_eight exchange
     ≡ exchanged_images.elements
 unfolding plain_push_from
 images_exchanged = refl
 
 -- x x
-square_of_x_along : plain_value cover_of_order_eight exchanged_images (pos 1 ∷ pos 1 ∷ []) ≡ record { exponents = 0 ∷ 0 ∷ 0 ∷ []; row = 0 ∷ 0 ∷ 0 ∷ 0 ∷ 1 ∷ [] }
+square_of_x_along : plain_value cover_of_order_eight exchanged_images (pos 1 ∷ pos 1 ∷ [])
+    ≡ record { exponents = 0 ∷ 0 ∷ 0 ∷ []; row = 0 ∷ 0 ∷ 0 ∷ 0 ∷ 1 ∷ [] }
 unfolding plain_push_from
 square_of_x_along = refl

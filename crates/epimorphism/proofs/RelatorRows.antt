@@ -27,9 +27,11 @@ pub record Finds (C : CoverOf) (push : State → ℕ → State) (f : ImagesOf) (
 module _ (C : CoverOf) (is : IsCover C) (push : State → ℕ → State) (meaning : IsMeaning (rowed_presentation (cover_presentation C)) push)
     (f : ImagesOf) (lifted : AreLifted C push f) (w : List ℤ) (l : HasLetters (length C.answer.names) w)
     (b : Bool) (x : List ℕ) (finds : Finds C push f w b x) where
-  pub found-row_joined : IsTrue b → Joined (flat (rowed_presentation (cover_presentation C))) (sub w (rowed_images (rowed_cover C))) (tails_word (rowed_cover C) x)
+  pub found-row_joined : IsTrue b
+      → Joined (flat (rowed_presentation (cover_presentation C))) (sub w (rowed_images (rowed_cover C))) (tails_word (rowed_cover C) x)
   found-row_joined h =
-      subst (λ (y : List ℕ). Joined (flat (rowed_presentation (cover_presentation C))) (sub w (rowed_images (rowed_cover C))) (tails_word (rowed_cover C) y)) (sym (finds.row h))
+      subst (λ (y : List ℕ). Joined (flat (rowed_presentation (cover_presentation C))) (sub w (rowed_images (rowed_cover C)))
+      (tails_word (rowed_cover C) y)) (sym (finds.row h))
       (value_under-row_joined C is push meaning f lifted w l (finds.decided.0 h))
 
   pub found-killed : IsConsistent C.answer.presentation → IsTrue b ↔ Joined C.answer.presentation (sub w (image_words C.answer)) []
@@ -41,12 +43,15 @@ module _ (C : CoverOf) (is : IsCover C) (push : State → ℕ → State) (meanin
 pub finds-from : (C : CoverOf) (meaning : RowedPresentation → State → ℕ → State) (f : ImagesOf) (w : List ℤ) (b : Bool) (x : List ℕ)
     (T : TailedPresentation) (fs gs : List Element) (u : List ℤ) (s : Workspace) (e : Element)
     → T ≡ cover_presentation C → fs ≡ f.elements → gs ≡ f.inverses → u ≡ w → IsScratch T s
-    → s.left.state ≡ evaluate_from (rowed_presentation T) (meaning (rowed_presentation T)) (states_of fs) (states_of gs) (identity (rowed_presentation T) T.presentation.rank) u
+    → s.left.state
+    ≡ evaluate_from (rowed_presentation T) (meaning (rowed_presentation T)) (states_of fs) (states_of gs)
+    (identity (rowed_presentation T) T.presentation.rank) u
     → e ≡ s.left → IsTrue b ↔ e.state.exponents ≡ zeros (length e.state.exponents) → (IsTrue b → x ≡ e.state.row)
     → Finds C (meaning (rowed_presentation (cover_presentation C))) f w b x
 finds-from C meaning f w b x T fs gs u s e t fq gq uq scratch value eq d r =
     let made : TailedPresentation → List Element → List Element → List ℤ → State =
-    λ P xs ys v. evaluate_from (rowed_presentation P) (meaning (rowed_presentation P)) (states_of xs) (states_of ys) (identity (rowed_presentation P) P.presentation.rank) v in
+    λ P xs ys v. evaluate_from (rowed_presentation P) (meaning (rowed_presentation P)) (states_of xs) (states_of ys)
+    (identity (rowed_presentation P) P.presentation.rank) v in
     let state : e.state ≡ value_under C (meaning (rowed_presentation (cover_presentation C))) f w =
     ap (λ (z : Element). z.state) eq ∙ value ∙ ap (λ (P : TailedPresentation). made P fs gs u) t
     ∙ ap (λ (xs : List Element). made (cover_presentation C) xs gs u) fq
@@ -55,7 +60,8 @@ finds-from C meaning f w b x T fs gs u s e t fq gq uq scratch value eq d r =
     let exponents : e.state.exponents ≡ (value_under C (meaning (rowed_presentation (cover_presentation C))) f w).exponents =
     ap (λ (z : State). z.exponents) state in
     let count : length e.state.exponents ≡ C.answer.presentation.rank =
-    ap (λ (z : Element). length z.state.exponents) eq ∙ scratch.left.state.exponents.count ∙ ap (λ (P : TailedPresentation). P.presentation.rank) t in
+    ap (λ (z : Element). length z.state.exponents) eq
+    ∙ scratch.left.state.exponents.count ∙ ap (λ (P : TailedPresentation). P.presentation.rank) t in
     record {
       decided = (
         λ h. sym exponents ∙ d.0 h ∙ ap zeros count,
@@ -69,4 +75,5 @@ killed_relators_have_rows C is consistent push meaning f lifted w l = value_unde
 
 pub rows_of_two_collectors_differ_by_trivial_rows : RowsOfTwoCollectorsDifferByTrivialRows
 rows_of_two_collectors_differ_by_trivial_rows C is push push' meaning meaning' f f' lifted lifted' w l q q' =
-    joined-trans (joined-sym (value_under-row_joined C is push meaning f lifted w l q)) (value_under-row_joined C is push' meaning' f' lifted' w l q')
+    joined-trans (joined-sym (value_under-row_joined C is push meaning f lifted w l q))
+    (value_under-row_joined C is push' meaning' f' lifted' w l q')

@@ -29,29 +29,34 @@ images_of_order_eight = record {
 }
 
 -- x x
-square_of_x : plain_value cover_of_order_eight images_of_order_eight (pos 1 ∷ pos 1 ∷ []) ≡ record { exponents = 0 ∷ 0 ∷ 0 ∷ []; row = 0 ∷ 0 ∷ 0 ∷ 1 ∷ 0 ∷ [] }
+square_of_x : plain_value cover_of_order_eight images_of_order_eight (pos 1 ∷ pos 1 ∷ [])
+    ≡ record { exponents = 0 ∷ 0 ∷ 0 ∷ []; row = 0 ∷ 0 ∷ 0 ∷ 1 ∷ 0 ∷ [] }
 unfolding plain_push_from
 square_of_x = refl
 
 -- y y
-square_of_y : plain_value cover_of_order_eight images_of_order_eight (pos 2 ∷ pos 2 ∷ []) ≡ record { exponents = 0 ∷ 0 ∷ 0 ∷ []; row = 0 ∷ 0 ∷ 0 ∷ 0 ∷ 1 ∷ [] }
+square_of_y : plain_value cover_of_order_eight images_of_order_eight (pos 2 ∷ pos 2 ∷ [])
+    ≡ record { exponents = 0 ∷ 0 ∷ 0 ∷ []; row = 0 ∷ 0 ∷ 0 ∷ 0 ∷ 1 ∷ [] }
 unfolding plain_push_from
 square_of_y = refl
 
 -- y⁻¹ y
-inverse_of_y_before_y : plain_value cover_of_order_eight images_of_order_eight (negsuc 1 ∷ pos 2 ∷ []) ≡ record { exponents = 0 ∷ 0 ∷ 0 ∷ []; row = 0 ∷ 0 ∷ 0 ∷ 0 ∷ 0 ∷ [] }
+inverse_of_y_before_y : plain_value cover_of_order_eight images_of_order_eight (negsuc 1 ∷ pos 2 ∷ [])
+    ≡ record { exponents = 0 ∷ 0 ∷ 0 ∷ []; row = 0 ∷ 0 ∷ 0 ∷ 0 ∷ 0 ∷ [] }
 unfolding plain_push_from
 inverse_of_y_before_y = refl
 
 -- the commutator of y and x is a3, so it has no row
-commutator_of_y_and_x : (plain_value cover_of_order_eight images_of_order_eight (negsuc 1 ∷ negsuc 0 ∷ pos 2 ∷ pos 1 ∷ [])).exponents ≡ 0 ∷ 0 ∷ 1 ∷ []
+commutator_of_y_and_x : (plain_value cover_of_order_eight images_of_order_eight (negsuc 1 ∷ negsuc 0 ∷ pos 2 ∷ pos 1 ∷ [])).exponents
+    ≡ 0 ∷ 0 ∷ 1 ∷ []
 unfolding plain_push_from
 commutator_of_y_and_x = refl
 
 -- a2 from a1^2, a3 from [a2,a1]; this answer is not consistent, for a2 is a power of a1
 abbrev inconsistent_answer : Answer
 inconsistent_answer = record {
-  presentation = record { prime = 2; rank = 3; powers = (1 ∷ 0 ∷ []) ∷ (0 ∷ []) ∷ [] ∷ []; commutators = [] ∷ ((1 ∷ []) ∷ []) ∷ ([] ∷ [] ∷ []) ∷ [] };
+  presentation =
+      record { prime = 2; rank = 3; powers = (1 ∷ 0 ∷ []) ∷ (0 ∷ []) ∷ [] ∷ []; commutators = [] ∷ ((1 ∷ []) ∷ []) ∷ ([] ∷ [] ∷ []) ∷ [] };
   weights = 1 ∷ 2 ∷ 3 ∷ [];
   names = (120 ∷ []) ∷ [];
   definitions = image 1 ∷ power 1 ∷ commutator 2 1 ∷ [];

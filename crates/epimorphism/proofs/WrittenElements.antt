@@ -48,7 +48,8 @@ module _ (f g : List Element) (a : AreAlike f g) (i : ℕ) (l : i < length f) (d
   }
 
 -- a word of a list
-pub AreWords-at : (n : ℕ) (words : List (List ℤ)) (i : ℕ) (x u : List ℤ) → AreWords n words → i < length words → x ≡ get_or words i x → u ≡ x → HasLetters n u
+pub AreWords-at : (n : ℕ) (words : List (List ℤ)) (i : ℕ) (x u : List ℤ) → AreWords n words → i < length words → x ≡ get_or words i x
+    → u ≡ x → HasLetters n u
 AreWords-at n words i x u ws l at is =
     subst (HasLetters n) (sym (is ∙ at ∙ get_or_default words i x [] l)) (HasLetters-get_or n words i ws)
 
@@ -58,17 +59,20 @@ module _ (T : TailedPresentation) (push : State → ℕ → State) (f g : List E
   value_elements-count words =
       length-map words (λ (u : List ℤ). record {
         prime = T.presentation.prime;
-        state = evaluate_from (rowed_presentation T) push (states_of f) (states_of g) (identity (rowed_presentation T) T.presentation.rank) u;
+        state = evaluate_from (rowed_presentation T) push (states_of f) (states_of g)
+            (identity (rowed_presentation T) T.presentation.rank) u;
       })
 
   -- an element of the presentation whose state is the value of a word
   value-element : (words : List (List ℤ)) (i : ℕ) (u : List ℤ) (d e : Element) → i < length words → u ≡ get_or words i [] → IsElement T e
-      → e.state ≡ evaluate_from (rowed_presentation T) push (states_of f) (states_of g) (identity (rowed_presentation T) T.presentation.rank) u
+      → e.state ≡ evaluate_from (rowed_presentation T) push (states_of f) (states_of g)
+      (identity (rowed_presentation T) T.presentation.rank) u
       → e ≡ get_or (value_elements T push f g words) i d
   value-element words i u d e l w h q =
       let made : List ℤ → Element = λ (v : List ℤ). record {
         prime = T.presentation.prime;
-        state = evaluate_from (rowed_presentation T) push (states_of f) (states_of g) (identity (rowed_presentation T) T.presentation.rank) v;
+        state = evaluate_from (rowed_presentation T) push (states_of f) (states_of g)
+            (identity (rowed_presentation T) T.presentation.rank) v;
       } in
       let same : e ≡ made u = ap₂ (λ (p : ℕ) (s : State). record { prime = p; state = s }) h.prime q in
       same ∙ ap made w ∙ sym (get_or-map made words i [] d l)
@@ -77,7 +81,8 @@ module _ (T : TailedPresentation) (push : State → ℕ → State) (f g : List E
   pub value_elements-more : (words : List (List ℤ)) (out fs gs : List Element) (i : ℕ) (x u : List ℤ) (e : Element) → i < length words
       → length out ≡ length words → take i out ≡ take i (value_elements T push f g words) → x ≡ get_or words i x → u ≡ x → fs ≡ f → gs ≡ g
       → IsElement T e
-      → e.state ≡ evaluate_from (rowed_presentation T) push (states_of fs) (states_of gs) (identity (rowed_presentation T) T.presentation.rank) u
+      → e.state ≡ evaluate_from (rowed_presentation T) push (states_of fs) (states_of gs)
+      (identity (rowed_presentation T) T.presentation.rank) u
       → take (i + 1) (set out i e) ≡ take (i + 1) (value_elements T push f g words)
   value_elements-more words out fs gs i x u e l c h at is fq gq element q =
       let n = value_elements-count words in
@@ -98,4 +103,5 @@ module _ (T : TailedPresentation) (push : State → ℕ → State) (f : List Ele
   pub written_inverses-all : (out : List Element) (i : ℕ) → length f ≤ i → length out ≡ length f → All (IsElement T) f
       → AllZip (IsInverse T push) (take i f) (take i out) → AreImageElements T push f out
   written_inverses-all out i l c all zip =
-      subst (λ (es : List Element). AreImageElements T push f es) (take_all i out (omega arith)) (inverses-all T push f (take i out) i l all zip)
+      subst (λ (es : List Element). AreImageElements T push f es) (take_all i out (omega arith))
+      (inverses-all T push f (take i out) i l all zip)

@@ -127,7 +127,8 @@ fn evaluate_all<C: Collect>(
     requires count { length out.old ≡ length words.now }
     ensures scratch { IsScratch pcp.now s.new }
     ensures elements { All (IsElement pcp.now) out.new }
-    ensures values { out.new ≡ value_elements pcp.now (C.meaning (rowed_presentation pcp.now)) images.now.elements images.now.inverses words.now }
+    ensures values { out.new
+        ≡ value_elements pcp.now (C.meaning (rowed_presentation pcp.now)) images.now.elements images.now.inverses words.now }
 {
     for i in 0..words.len() {
         evaluate(

@@ -1,5 +1,6 @@
 -- A cover is an answer with rows: the row of a source is that of its place, and definitions have the row of zeros.
-use Rattle.std.proofs.Common.{◌≡◌, ◌<◌, ◌≤◌, ◌+◌, ◌-◌, ℕ, zero, suc, true, not, Option, None, List, [], ◌∷◌, get_or, length, map, refl, ap, sym, ◌∙◌, subst, arith}
+use Rattle.std.proofs.Common.{◌≡◌, ◌<◌, ◌≤◌, ◌+◌, ◌-◌, ℕ, zero, suc, true, not, Option, None, List, [], ◌∷◌, get_or, length, map, refl, ap}
+use Rattle.std.proofs.Common.{sym, ◌∙◌, subst, arith}
 use Rattle.std.proofs.lemmas.Bool.{false≢true, or_left, or_right}
 use Rattle.std.proofs.lemmas.List.{length-map}
 use Rattle.pq_base.specs.Presentation.{IsNormal}
@@ -69,9 +70,11 @@ module _ (A : Answer) (ds : List Source) where
       let n : ℕ = A.presentation.rank in
       let tail : Relation → Option ℕ = λ r. place_in ds (relation_source r) in
       let row : Relation → List ℕ = λ r. source_row (relation_source r) in
-      ap (λ (ps : List (List ℕ)). let t : PerRelation (List ℕ) = record { powers = ps; commutators = (tail_rows (covering A ds)).commutators } in t)
+      ap (λ (ps : List (List ℕ)). let t : PerRelation (List ℕ) =
+      record { powers = ps; commutators = (tail_rows (covering A ds)).commutators } in t)
       (map-tabulate (row_of (length ds)) n (λ i. tail (PowerOf (suc i))))
-      ∙ ap (λ (cs : List (List (List ℕ))). let t : PerRelation (List ℕ) = record { powers = tabulate n (λ i. row (PowerOf (suc i))); commutators = cs } in t)
+      ∙ ap (λ (cs : List (List (List ℕ))). let t : PerRelation (List ℕ) =
+      record { powers = tabulate n (λ i. row (PowerOf (suc i))); commutators = cs } in t)
       (map-tabulate (λ (ts : List (Option ℕ)). map (row_of (length ds)) ts) n (λ j. tabulate j (λ i. tail (CommutatorOf (suc j) (suc i))))
       ∙ tabulate_agree n (λ j. map (row_of (length ds)) (tabulate j (λ i. tail (CommutatorOf (suc j) (suc i)))))
       (λ j. tabulate j (λ i. row (CommutatorOf (suc j) (suc i))))
@@ -82,7 +85,8 @@ module _ (A : Answer) (ds : List Source) where
       subst (λ (t : PerRelation (List ℕ)). HasShape A.presentation.rank t) (sym tail_rows-covering)
       (per_relation-shape A.presentation.rank (λ r. source_row (relation_source r)))
 
-  entry_at-covering : (r : Relation) → IsRelation A.presentation.rank r → entry_at [] (tail_rows (covering A ds)) r ≡ source_row (relation_source r)
+  entry_at-covering : (r : Relation) → IsRelation A.presentation.rank r
+      → entry_at [] (tail_rows (covering A ds)) r ≡ source_row (relation_source r)
   entry_at-covering r h =
       ap (λ (t : PerRelation (List ℕ)). entry_at [] t r) tail_rows-covering
       ∙ entry_at-per_relation A.presentation.rank (λ q. source_row (relation_source q)) [] r h
@@ -112,7 +116,8 @@ module _ (A : Answer) (ds : List Source) where
 
     entry-normal : (r : Relation) → IsRelation A.presentation.rank r
         → IsNormal A.presentation.prime (length ds) (entry_at [] (tail_rows (covering A ds)) r)
-    entry-normal r h = subst (IsNormal A.presentation.prime (length ds)) (sym (entry_at-covering r h)) (source_row-normal (relation_source r))
+    entry-normal r h =
+        subst (IsNormal A.presentation.prime (length ds)) (sym (entry_at-covering r h)) (source_row-normal (relation_source r))
 
     cover_on-rowed : IsRowed (rowed (cover_on A ds))
     cover_on-rowed = record {
@@ -124,8 +129,10 @@ module _ (A : Answer) (ds : List Source) where
       commutator_count = tail_rows-shape.row_count;
       commutator_counts = tail_rows-shape.row_lengths;
       commutator_rows = λ j i h l.
-          subst (λ (k : ℕ). IsNormal A.presentation.prime (length ds) (get_or (get_or (tail_rows (covering A ds)).commutators j []) k [])) (less_one i)
-          (subst (λ (k : ℕ). IsNormal A.presentation.prime (length ds) (get_or (get_or (tail_rows (covering A ds)).commutators k []) (suc i - 1) [])) (less_one j)
+          subst (λ (k : ℕ). IsNormal A.presentation.prime (length ds) (get_or (get_or (tail_rows (covering A ds)).commutators j []) k []))
+          (less_one i)
+          (subst (λ (k : ℕ). IsNormal A.presentation.prime (length ds)
+          (get_or (get_or (tail_rows (covering A ds)).commutators k []) (suc i - 1) [])) (less_one j)
           (entry-normal (CommutatorOf (suc j) (suc i)) (omega arith, omega arith, omega arith)));
     }
 

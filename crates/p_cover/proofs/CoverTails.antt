@@ -42,9 +42,11 @@ module _ (A : Answer) (ds : List Source) (part : IsPartOf ds (all_sources A)) wh
 -- the list of the tails of images
 module _ (A : Answer) (ds : List Source) where
   pub length-tails_of_images : length (tails_of_images A ds) ≡ length A.names
-  length-tails_of_images = length-map (numbers_from 1 (length A.names)) (λ i. place_in ds (image i)) ∙ length-numbers_from 1 (length A.names)
+  length-tails_of_images =
+      length-map (numbers_from 1 (length A.names)) (λ i. place_in ds (image i)) ∙ length-numbers_from 1 (length A.names)
 
   pub image_place : (i : ℕ) → 1 ≤ i → i ≤ length A.names → get_or (tails_of_images A ds) (i - 1) None ≡ place_in ds (image i)
   image_place i first last =
       let place : 1 + (i - 1) ≡ i = omega arith in
-      get_or-map_numbers (λ k. place_in ds (image k)) 1 (length A.names) (i - 1) None (omega arith) ∙ ap (λ (k : ℕ). place_in ds (image k)) place
+      get_or-map_numbers (λ k. place_in ds (image k)) 1 (length A.names) (i - 1) None (omega arith)
+      ∙ ap (λ (k : ℕ). place_in ds (image k)) place

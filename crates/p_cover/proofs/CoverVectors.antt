@@ -41,13 +41,15 @@ pub two_tails : (covering answer_of_order_eight (power 3 ∷ power 2 ∷ [])).ta
 two_tails = refl
 
 pub two_tails_are_a_part : IsPartOf (power 3 ∷ power 2 ∷ []) (all_sources answer_of_order_eight)
-two_tails_are_a_part = left_out (commutator 3 1) (left_out (commutator 3 2) (taken (power 3) (left_out (power 1) (taken (power 2) nothing))))
+two_tails_are_a_part =
+    left_out (commutator 3 1) (left_out (commutator 3 2) (taken (power 3) (left_out (power 1) (taken (power 2) nothing))))
 
 -- in another order they are none
 pub other_order_is_no_part : ¬ IsPartOf (power 3 ∷ commutator 3 1 ∷ []) (all_sources answer_of_order_eight)
 other_order_is_no_part part =
     let b : IsBefore answer_of_order_eight 2 (power 3) (commutator 3 1) =
-    AllPairs-part (IsBefore answer_of_order_eight 2) part (all_sources-in_order answer_of_order_eight) 0 1 (image 0) (omega arith) (omega arith) in
+    AllPairs-part (IsBefore answer_of_order_eight 2) part (all_sources-in_order answer_of_order_eight) 0 1 (image 0) (omega arith)
+    (omega arith) in
     let late : 1 ≤ 0 = b.parts in
     omega arith
 
@@ -63,7 +65,8 @@ lifted_images_of_cycle = refl
 -- a cover is an answer with rows
 pub cover_of_order_eight : IsRowedAnswer (cover_on answer_of_order_eight (all_sources answer_of_order_eight))
 cover_of_order_eight =
-    let part : IsPartOf (all_sources answer_of_order_eight) (all_sources answer_of_order_eight) = part_of_itself (all_sources answer_of_order_eight) in
+    let part : IsPartOf (all_sources answer_of_order_eight) (all_sources answer_of_order_eight) =
+    part_of_itself (all_sources answer_of_order_eight) in
     (covers_are_rowed_answers answer_of_order_eight (all_sources answer_of_order_eight) order_eight_is_answer part).0
 
 -- with a tail for what defines a3 it would be none

@@ -8,8 +8,10 @@ use Rattle.pq_base.specs.Joined.{Joined}
 use Rattle.pq_base.specs.Answer.{Definition, AreNormal, image_words}
 use Rattle.pq_base.specs.Answer.Definition.{image, commutator, power}
 use Rattle.pq_base.proofs.words.WordLaws.{sub-append, sub-inv, sub-letter}
-use Rattle.pq_base.proofs.words.LetterLaws.{HasLetters-letter, HasLetters-copies, HasLetters-comm, HasLetters-normal_word, HasLetters-power_word, HasLetters-commutator_word}
-use Rattle.pq_base.proofs.words.JoinedLaws.{joined-from_equal, joined-sym, joined-trans, joined-append, joined-inv, inv-append-append-joined}
+use Rattle.pq_base.proofs.words.LetterLaws.{HasLetters-letter, HasLetters-copies, HasLetters-comm, HasLetters-normal_word}
+use Rattle.pq_base.proofs.words.LetterLaws.{HasLetters-power_word, HasLetters-commutator_word}
+use Rattle.pq_base.proofs.words.JoinedLaws.{joined-from_equal, joined-sym, joined-trans, joined-append, joined-inv}
+use Rattle.pq_base.proofs.words.JoinedLaws.{inv-append-append-joined}
 use Rattle.pq_base.proofs.words.SpelledBack.{spelled_words-back}
 use Rattle.pq_base.proofs.NormalLists.{normal-entry}
 use Rattle.pc_presentation.specs.Rowed.{flat, power_row, commutator_row}
@@ -32,7 +34,8 @@ module _ (Y : RowedAnswer) (is : IsRowedAnswer Y) where
       → Joined (flat (rowed Y)) (sub (inv (sub w (spelling_words Y.answer)) ++ u) (rowed_images Y)) (tails_word Y x)
   quotient-row w u x h c =
       let v : List ℤ = sub w (spelling_words Y.answer) in
-      let split : sub (inv (sub w (spelling_words Y.answer)) ++ u) (rowed_images Y) ≡ inv (sub v (rowed_images Y)) ++ sub u (rowed_images Y) =
+      let split : sub (inv (sub w (spelling_words Y.answer)) ++ u) (rowed_images Y)
+      ≡ inv (sub v (rowed_images Y)) ++ sub u (rowed_images Y) =
       sub-append (inv v) u (rowed_images Y) ∙ ap (λ (y : List ℤ). y ++ sub u (rowed_images Y)) (sub-inv v (rowed_images Y)) in
       joined-trans (joined-from_equal (flat (rowed Y)) split)
       (joined-trans (joined-append (joined-inv (spelled-back w h)) c) (inv-append-append-joined (flat (rowed Y)) w (tails_word Y x)))
@@ -40,7 +43,8 @@ module _ (Y : RowedAnswer) (is : IsRowedAnswer Y) where
   -- where the left side is a word of generators
   relation-row : (w u : List ℤ) (x : List ℕ) → HasLetters Y.answer.presentation.rank w → HasLetters Y.answer.presentation.rank u
       → Joined (flat (rowed Y)) u (w ++ tails_word Y x)
-      → Joined (flat (rowed Y)) (sub (inv (sub w (spelling_words Y.answer)) ++ sub u (spelling_words Y.answer)) (rowed_images Y)) (tails_word Y x)
+      → Joined (flat (rowed Y)) (sub (inv (sub w (spelling_words Y.answer)) ++ sub u (spelling_words Y.answer)) (rowed_images Y))
+      (tails_word Y x)
   relation-row w u x h i c = quotient-row w (sub u (spelling_words Y.answer)) x h (joined-trans (spelled-back u i) c)
 
   pub entry-row : (d : Definition) → IsSourceOf Y.answer d
@@ -51,7 +55,8 @@ module _ (Y : RowedAnswer) (is : IsRowedAnswer Y) where
       let normal : IsNormal Y.answer.presentation.prime Y.answer.presentation.rank (get_or Y.answer.images i []) =
       normal-entry Y.answer.presentation.prime Y.answer.presentation.rank Y.answer.images i is.answer.images h in
       let c = normal.count in
-      let word : get_or (image_words Y.answer) i [] ≡ normal_word (get_or Y.answer.images i []) = get_or-map normal_word Y.answer.images i [] in
+      let word : get_or (image_words Y.answer) i [] ≡ normal_word (get_or Y.answer.images i []) =
+      get_or-map normal_word Y.answer.images i [] in
       let in_range : HasLetters Y.answer.presentation.rank (get_or (image_words Y.answer) i []) =
       subst (λ (w : List ℤ). HasLetters Y.answer.presentation.rank w) (sym word)
       (HasLetters-normal_word Y.answer.presentation.rank e (omega arith)) in
@@ -71,7 +76,8 @@ module _ (Y : RowedAnswer) (is : IsRowedAnswer Y) where
   entry-row (power (suc j)) h =
       relation-row (power_word Y.answer.presentation j) (copies (letter j) Y.answer.presentation.prime) (power_row (rowed Y) j)
       (HasLetters-power_word Y.answer.presentation is.answer.presentation j h)
-      (HasLetters-copies Y.answer.presentation.rank (letter j) Y.answer.presentation.prime (HasLetters-letter Y.answer.presentation.rank j h))
+      (HasLetters-copies Y.answer.presentation.rank (letter j) Y.answer.presentation.prime
+      (HasLetters-letter Y.answer.presentation.rank j h))
       (power-with_row (rowed Y) is.presentation j h)
 
 pub entry_words_hold : EntryWordsHold

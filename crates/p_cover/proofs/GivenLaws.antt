@@ -1,6 +1,7 @@
 -- What one relation more does to the presentation of a cover in the making: it stays faithful, and nothing that was given is
 -- lost.
-use Rattle.std.proofs.Common.{◌≡◌, ◌≢◌, ◌⊎◌, ◌<◌, ◌+◌, ◌-◌, ℕ, true, false, Option, Some, None, List, [], get_or, length, refl, ap, sym, ◌∙◌, subst, inl, inr, arith}
+use Rattle.std.proofs.Common.{◌≡◌, ◌≢◌, ◌⊎◌, ◌<◌, ◌+◌, ◌-◌, ℕ, true, false, Option, Some, None, List, [], get_or, length, refl, ap, sym}
+use Rattle.std.proofs.Common.{◌∙◌, subst, inl, inr, arith}
 use Rattle.std.proofs.lemmas.Bool.{cases_lt, false_from_ne_true}
 use Rattle.std.proofs.lemmas.List.Elements.{All-from_get_or}
 use Rattle.pq_base.specs.Presentation.{IsPresentation}
@@ -44,7 +45,8 @@ relation_no_image (PowerOf i) k e = power_no_image i k e
 relation_no_image (CommutatorOf j i) k e = commutator_no_image j i k e
 
 module _ (A : Answer) (is : IsPresentation A.presentation) where
-  module _ (ds : List Source) (D : Draft) (f : IsFaithful A ds D) (r : Relation) (h : IsRelation A.presentation.rank r) (tail : Option ℕ) where
+  module _ (ds : List Source) (D : Draft) (f : IsFaithful A ds D) (r : Relation) (h : IsRelation A.presentation.rank r)
+      (tail : Option ℕ) where
     abbrev longer : Draft
     longer = extended D r (side_word A.presentation r) tail
 
@@ -129,7 +131,8 @@ module _ (A : Answer) (is : IsPresentation A.presentation) where
       | inr old ↦
           subst (IsBegun A ds (k + 1)) (sym old.1) (record {
             faithful = b.faithful;
-            listed = up_to_here D (relation_source r) here (λ q m w. w) (λ q m e. subst (WasGiven D) (relation_source-injective r q e) old.0);
+            listed =
+                up_to_here D (relation_source r) here (λ q m w. w) (λ q m e. subst (WasGiven D) (relation_source-injective r q e) old.0);
           })
     ]
 
@@ -146,7 +149,8 @@ module _ (A : Answer) (is : IsPresentation A.presentation) where
     | inl new ↦
         let place : None ≡ place_in ds (relation_source r) =
         sym (place_in-outside (λ d. d ≢ relation_source r) ds (relation_source r)
-        (All-from_get_or (λ d. d ≢ relation_source r) ds (image 0) (λ i l (e : get_or ds i (image 0) ≡ relation_source r). new.0 (b.listed i r l h e)))
+        (All-from_get_or (λ d. d ≢ relation_source r) ds (image 0)
+        (λ i l (e : get_or ds i (image 0) ≡ relation_source r). new.0 (b.listed i r l h e)))
         (λ n. n refl)) in
         subst (GoesOn A (λ q. q ≡ r) ds D) (sym new.1) (record {
           begun = record {
@@ -176,5 +180,6 @@ goes_on-then A P Q R D E F first second either ds b =
       ];
     }
 
-pub goes_on-none : (A : Answer) (R : Relation → Type 0) (D : Draft) → ((q : Relation) → IsRelation A.presentation.rank q → ¬ R q) → Completes A R D D
+pub goes_on-none : (A : Answer) (R : Relation → Type 0) (D : Draft) → ((q : Relation) → IsRelation A.presentation.rank q → ¬ R q)
+    → Completes A R D D
 goes_on-none A R D none ds b = record { begun = b; kept = λ q l g. g; given = λ q l r. absurd (none q l r) }

@@ -40,7 +40,8 @@ module _ (A : Answer) (D : Draft) where
       none (CommutatorOf j i) l h = omega (arith, l.0, l.1)
 
 module _ (A : Answer) (D E F : Draft) where
-  pub powers-more : (k : ℕ) → Completes A (IsPowerTo k) D E → Completes A (λ q. q ≡ PowerOf (k + 1)) E F → Completes A (IsPowerTo (k + 1)) D F
+  pub powers-more : (k : ℕ) → Completes A (IsPowerTo k) D E → Completes A (λ q. q ≡ PowerOf (k + 1)) E F
+      → Completes A (IsPowerTo (k + 1)) D F
   powers-more k x y = goes_on-then A (IsPowerTo k) (λ q. q ≡ PowerOf (k + 1)) (IsPowerTo (k + 1)) D E F x y either
     where
       either : (q : Relation) → IsRelation A.presentation.rank q → IsPowerTo (k + 1) q → IsPowerTo k q ⊎ (q ≡ PowerOf (k + 1))
@@ -52,9 +53,11 @@ module _ (A : Answer) (D E F : Draft) where
 
   pub commutators_of-more : (j k : ℕ) → Completes A (IsCommutatorOf j k) D E → Completes A (λ q. q ≡ CommutatorOf j (k + 1)) E F
       → Completes A (IsCommutatorOf j (k + 1)) D F
-  commutators_of-more j k x y = goes_on-then A (IsCommutatorOf j k) (λ q. q ≡ CommutatorOf j (k + 1)) (IsCommutatorOf j (k + 1)) D E F x y either
+  commutators_of-more j k x y =
+      goes_on-then A (IsCommutatorOf j k) (λ q. q ≡ CommutatorOf j (k + 1)) (IsCommutatorOf j (k + 1)) D E F x y either
     where
-      either : (q : Relation) → IsRelation A.presentation.rank q → IsCommutatorOf j (k + 1) q → IsCommutatorOf j k q ⊎ (q ≡ CommutatorOf j (k + 1))
+      either : (q : Relation) → IsRelation A.presentation.rank q → IsCommutatorOf j (k + 1) q
+          → IsCommutatorOf j k q ⊎ (q ≡ CommutatorOf j (k + 1))
       either (PowerOf i) l h = absurd h
       either (CommutatorOf l i) m h =
           let last : i ≤ k + 1 = h.1 in
@@ -80,10 +83,12 @@ module _ (A : Answer) (D E F : Draft) where
             | inr above ↦ inr (omega arith, omega arith)
           ]
 
-  pub all_more : Completes A (IsPowerTo A.presentation.rank) D E → Completes A (IsCommutatorTo A.presentation.rank) E F → Completes A IsAny D F
+  pub all_more : Completes A (IsPowerTo A.presentation.rank) D E → Completes A (IsCommutatorTo A.presentation.rank) E F
+      → Completes A IsAny D F
   all_more x y = goes_on-then A (IsPowerTo A.presentation.rank) (IsCommutatorTo A.presentation.rank) IsAny D E F x y either
     where
-      either : (q : Relation) → IsRelation A.presentation.rank q → IsAny q → IsPowerTo A.presentation.rank q ⊎ IsCommutatorTo A.presentation.rank q
+      either : (q : Relation) → IsRelation A.presentation.rank q → IsAny q
+          → IsPowerTo A.presentation.rank q ⊎ IsCommutatorTo A.presentation.rank q
       either (PowerOf i) l h = inl l.1
       either (CommutatorOf j i) l h = inr l.2
 
@@ -116,11 +121,13 @@ module _ (A : Answer) (ds : List Source) (is : IsPresentation A.presentation) wh
   presentation_same : (P Q : Presentation) → P.prime ≡ Q.prime → P.rank ≡ Q.rank → sides_of P ≡ sides_of Q → P ≡ Q
   presentation_same P Q e f g = λ i. record { prime = e i; rank = f i; powers = (g i).powers; commutators = (g i).commutators }
 
-  tailed_same : (T U : TailedPresentation) → T.presentation ≡ U.presentation → T.weights ≡ U.weights → T.tails ≡ U.tails → T.tail_table ≡ U.tail_table → T ≡ U
+  tailed_same : (T U : TailedPresentation) → T.presentation ≡ U.presentation → T.weights ≡ U.weights → T.tails ≡ U.tails
+      → T.tail_table ≡ U.tail_table → T ≡ U
   tailed_same T U e f g h = λ i. record { presentation = e i; weights = f i; tails = g i; tail_table = h i }
 
   -- all were given
-  pub all_given : (D : Draft) → IsFaithful A ds D → ((r : Relation) → IsRelation A.presentation.rank r → WasGiven D r) → D.built ≡ covering A ds
+  pub all_given : (D : Draft) → IsFaithful A ds D → ((r : Relation) → IsRelation A.presentation.rank r → WasGiven D r)
+      → D.built ≡ covering A ds
   all_given D f all =
       let n : ℕ = A.presentation.rank in
       let sides : sides_of D.built.presentation ≡ sides_of A.presentation =
@@ -131,7 +138,8 @@ module _ (A : Answer) (ds : List Source) (is : IsPresentation A.presentation) wh
       same_tables n D.built.tail_table (per_relation n (λ r. place_in ds (relation_source r))) None f.tail_shape
       (per_relation-shape n (λ r. place_in ds (relation_source r)))
       (λ r h. f.tail_numbers r h (all r h) ∙ sym (entry_at-per_relation n (λ q. place_in ds (relation_source q)) None r h)) in
-      tailed_same D.built (covering A ds) (presentation_same D.built.presentation A.presentation f.prime f.rank sides) f.weights f.tails table
+      tailed_same D.built (covering A ds) (presentation_same D.built.presentation A.presentation f.prime f.rank sides) f.weights f.tails
+      table
 
   pub complete-is : (D E : Draft) → IsBegun A ds (length ds) D → Completes A IsAny D E → E.built ≡ covering A ds
   complete-is D E b c = let g = c ds b in all_given E g.begun.faithful (λ r h. g.given r h tt)

@@ -19,9 +19,12 @@ images_with_inverses T push f g all zip =
     let d : State = identity Y T.presentation.rank in
     let none : Element = record { prime = 0; state = d } in
     let count : length f ≡ length g = length_all_zip (IsInverse T push) f g zip in
-    let at : (i : ℕ) → i < length f → IsInverse T push (get_or f i none) (get_or g i none) = λ i l. AllZip-get_or (IsInverse T push) f g i none none zip l in
-    let state_f : (i : ℕ) → i < length f → get_or (states_of f) i d ≡ (get_or f i none).state = λ i l. get_or-map (λ (e : Element). e.state) f i none d l in
-    let state_g : (i : ℕ) → i < length f → get_or (states_of g) i d ≡ (get_or g i none).state = λ i l. get_or-map (λ (e : Element). e.state) g i none d (omega arith) in
+    let at : (i : ℕ) → i < length f → IsInverse T push (get_or f i none) (get_or g i none) =
+    λ i l. AllZip-get_or (IsInverse T push) f g i none none zip l in
+    let state_f : (i : ℕ) → i < length f → get_or (states_of f) i d ≡ (get_or f i none).state =
+    λ i l. get_or-map (λ (e : Element). e.state) f i none d l in
+    let state_g : (i : ℕ) → i < length f → get_or (states_of g) i d ≡ (get_or g i none).state =
+    λ i l. get_or-map (λ (e : Element). e.state) g i none d (omega arith) in
     let long : length (states_of f) ≡ length f = length-map f (λ (e : Element). e.state) in
     record {
       count = sym count;
@@ -37,7 +40,8 @@ images_with_inverses T push f g all zip =
 
 module _ (T : TailedPresentation) (push : State → ℕ → State) (f : List Element) where
   -- one inverse more
-  pub inverses-more : (g h : List Element) (i : ℕ) (u v : Element) → i < length f → u ≡ get_or f i u → AllZip (IsInverse T push) (take i f) g
+  pub inverses-more : (g h : List Element) (i : ℕ) (u v : Element) → i < length f → u ≡ get_or f i u
+      → AllZip (IsInverse T push) (take i f) g
       → IsInverse T push u v → h ≡ g ++ v ∷ [] → AllZip (IsInverse T push) (take (i + 1) f) h
   inverses-more g h i u v l is zip inverse e =
       subst (λ (es : List Element). AllZip (IsInverse T push) (take (i + 1) f) es) (sym e)

@@ -60,7 +60,8 @@ module _ (C : CoverOf) (is : IsCover C) (push : State → ℕ → State) (meanin
   pub value_under-joined : Joined (flat Y) (word_of Y (value_under C push f w)) (sub w (rowed_images (rowed_cover C)))
   value_under-joined =
       let a = collectors_have_arithmetic Y rows push meaning in
-      joined-trans (a.values (states_of f.elements) (states_of f.inverses) (identity Y C.answer.presentation.rank) w lifted.images.states one-state image-letters)
+      joined-trans (a.values (states_of f.elements) (states_of f.inverses)
+      (identity Y C.answer.presentation.rank) w lifted.images.states one-state image-letters)
       (joined-from_equal (flat Y)
       (ap (λ (v : List ℤ). v ++ sub w (map (word_of Y) (states_of f.elements))) (identity-word Y rows big push meaning)
       ∙ ap (λ (ss : List State). sub w (map (word_of Y) ss)) (lifted-states C is push f lifted)))
@@ -72,17 +73,20 @@ module _ (C : CoverOf) (is : IsCover C) (push : State → ℕ → State) (meanin
   -- in the answer
   value_under-joined_base : Joined C.answer.presentation (state_word (value_under C push f w)) (sub w (image_words C.answer))
   value_under-joined_base =
-      joined-trans (value-joined_base Y rows big push meaning (states_of f.elements) (states_of f.inverses) w lifted.images.states image-letters)
+      joined-trans (value-joined_base Y rows big push meaning (states_of f.elements)
+      (states_of f.inverses) w lifted.images.states image-letters)
       (joined-from_equal C.answer.presentation
       (ap (λ (ss : List State). sub w (map state_word ss)) (lifted-states C is push f lifted)
       ∙ ap (sub w) (image_states-words C is)))
 
   pub value_under-killed : IsConsistent C.answer.presentation
-      → (value_under C push f w).exponents ≡ zeros C.answer.presentation.rank ↔ Joined C.answer.presentation (sub w (image_words C.answer)) []
+      → (value_under C push f w).exponents ≡ zeros C.answer.presentation.rank
+      ↔ Joined C.answer.presentation (sub w (image_words C.answer)) []
   value_under-killed consistent =
       let b = big in
       zero-exponents_joined Y (omega arith) consistent (value_under C push f w) (sub w (image_words C.answer))
-      (value-state Y rows big push meaning (states_of f.elements) (states_of f.inverses) (identity Y C.answer.presentation.rank) w lifted.images.states one-state image-letters)
+      (value-state Y rows big push meaning (states_of f.elements) (states_of f.inverses)
+      (identity Y C.answer.presentation.rank) w lifted.images.states one-state image-letters)
       value_under-joined_base
 
 -- the word of a word's row
@@ -90,5 +94,6 @@ pub row_of_word-joined : (C : CoverOf) → IsCover C → (push : State → ℕ �
     → (w : List ℤ) → HasLetters (length C.answer.names) w → (x : List ℕ) → IsRowOfWord C push w x
     → Joined (flat (rowed_presentation (cover_presentation C))) (sub w (rowed_images (rowed_cover C))) (tails_word (rowed_cover C) x)
 row_of_word-joined C is push meaning w l x h =
-    subst (λ (y : List ℕ). Joined (flat (rowed_presentation (cover_presentation C))) (sub w (rowed_images (rowed_cover C))) (tails_word (rowed_cover C) y))
+    subst (λ (y : List ℕ). Joined (flat (rowed_presentation (cover_presentation C))) (sub w (rowed_images (rowed_cover C)))
+    (tails_word (rowed_cover C) y))
     (sym h.row) (value_under-row_joined C is push meaning h.images h.lifted w l h.zero)

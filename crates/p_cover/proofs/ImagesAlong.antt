@@ -1,7 +1,8 @@
 -- The value of a word under images that were carried along endomorphisms is joined to the image of the word along them, under
 -- the images at the start. So where such a value has no exponent the word of its row is joined in the cover to that image, and
 -- over a consistent answer this is so exactly where the answer kills it.
-use Rattle.std.proofs.Common.{◌≡◌, ◌↔◌, ℕ, zero, suc, ◌<◌, Bool, IsTrue, ℤ, List, [], ◌∷◌, ◌++◌, get_or, length, map, ap, sym, ◌∙◌, subst, arith}
+use Rattle.std.proofs.Common.{◌≡◌, ◌↔◌, ℕ, zero, suc, ◌<◌, Bool, IsTrue, ℤ, List, [], ◌∷◌, ◌++◌, get_or, length, map, ap, sym, ◌∙◌, subst}
+use Rattle.std.proofs.Common.{arith}
 use Rattle.std.proofs.lemmas.List.{length-map}
 use Rattle.pq_base.specs.SignedWord.{sub, HasLetters}
 use Rattle.pq_base.specs.LPresentation.{endo_at, along, AreEndoNumbers, AreWords, AreEndos}
@@ -74,7 +75,8 @@ module _ (C : CoverOf) (push : State → ℕ → State) (Q : Presentation) (word
     (values : (f g : List State) (w : List ℤ) → AreImages (rowed_presentation (cover_presentation C)) push f g → HasLetters (length f) w
     → Joined Q (word (evaluate_from (rowed_presentation (cover_presentation C)) push f g
     (identity (rowed_presentation (cover_presentation C)) C.answer.presentation.rank) w)) (sub w (map word f))) where
-  value-letters : (f : ImagesOf) (n : ℕ) (w : List ℤ) → length f.elements ≡ n → HasLetters n w → HasLetters (length (states_of f.elements)) w
+  value-letters : (f : ImagesOf) (n : ℕ) (w : List ℤ) → length f.elements ≡ n → HasLetters n w
+      → HasLetters (length (states_of f.elements)) w
   value-letters f n w count l =
       subst (λ (m : ℕ). HasLetters m w) (sym (length-map f.elements (λ (e : Element). e.state) ∙ count)) l
 
@@ -84,7 +86,8 @@ module _ (C : CoverOf) (push : State → ℕ → State) (Q : Presentation) (word
       → Joined Q (get_or (map word (states_of (composed_elements C push f endo))) i [])
       (get_or (map (λ (u : List ℤ). sub u (map word (states_of f.elements))) endo) i [])
   composed-words f n count images [] ws i = joined-refl Q []
-  composed-words f n count images (u ∷ us) ws zero = values (states_of f.elements) (states_of f.inverses) u images.states (value-letters f n u count ws.0)
+  composed-words f n count images (u ∷ us) ws zero =
+      values (states_of f.elements) (states_of f.inverses) u images.states (value-letters f n u count ws.0)
   composed-words f n count images (u ∷ us) ws (suc i) = composed-words f n count images us ws.1 i
 
   pub carried-joined : (n : ℕ) (endos : List (List (List ℤ))) → AreEndos n endos → {f g : ImagesOf} {s : List ℕ}
@@ -102,7 +105,8 @@ module _ (C : CoverOf) (push : State → ℕ → State) (Q : Presentation) (word
       (joined-trans
       (joined-from_equal Q (ap (λ (es : List Element). sub (along endos s w) (map word (states_of es))) composed.elements))
       (joined-trans
-      (joined-sub_same Q n (map word (states_of (composed_elements C push f (endo_at endos e)))) (map (λ (u : List ℤ). sub u words) (endo_at endos e))
+      (joined-sub_same Q n (map word (states_of (composed_elements C push f (endo_at endos e))))
+      (map (λ (u : List ℤ). sub u words) (endo_at endos e))
       (λ i m. composed-words f n count images (endo_at endos e) (AreWords-endo_at n endos e are) i)
       (along endos s w) (HasLetters-along n endos s w are l))
       (joined-from_equal Q (sym (sub-along endos e s w words)))))
@@ -147,7 +151,8 @@ module _ (C : CoverOf) (is : IsCover C) (push : State → ℕ → State) (meanin
   carried-joined_base : Joined C.answer.presentation (state_word (value_under C push g w)) (sub (along endos s w) (image_words C.answer))
   carried-joined_base =
       joined-trans
-      (carried-joined C push C.answer.presentation state_word (value-joined_base Y rows big push meaning) (length C.answer.names) endos are numbers
+      (carried-joined C push C.answer.presentation state_word (value-joined_base Y rows big push meaning)
+      (length C.answer.names) endos are numbers
       (lifted-count C is push f lifted) lifted.images carried w l)
       (joined-from_equal C.answer.presentation
       (ap (λ (ss : List State). sub (along endos s w) (map state_word ss)) (lifted-states C is push f lifted)
@@ -156,7 +161,8 @@ module _ (C : CoverOf) (is : IsCover C) (push : State → ℕ → State) (meanin
   carried-value_state : IsState Y C.answer.presentation.rank (value_under C push g w)
   carried-value_state =
       let c = carried-images C push (length C.answer.names) endos are numbers (lifted-count C is push f lifted) lifted.images carried in
-      value-state Y rows big push meaning (states_of g.elements) (states_of g.inverses) (identity Y C.answer.presentation.rank) w c.1.states one-state
+      value-state Y rows big push meaning (states_of g.elements) (states_of g.inverses)
+      (identity Y C.answer.presentation.rank) w c.1.states one-state
       (subst (λ (n : ℕ). HasLetters n w) (sym (length-map g.elements (λ (e : Element). e.state) ∙ c.0)) l)
 
   pub carried-killed : IsConsistent C.answer.presentation
@@ -173,9 +179,11 @@ module _ (C : CoverOf) (is : IsCover C) (push : State → ℕ → State) (meanin
     (s : List ℕ) (numbers : AreEndoNumbers (length endos) s) (w : List ℤ) (l : HasLetters (length C.answer.names) w)
     (b : Bool) (x : List ℕ) (found : IsFoundAlong C push endos f s w b x) where
   pub found_along-joined : IsTrue b
-      → Joined (flat (rowed_presentation (cover_presentation C))) (sub (along endos s w) (rowed_images (rowed_cover C))) (tails_word (rowed_cover C) x)
+      → Joined (flat (rowed_presentation (cover_presentation C))) (sub (along endos s w) (rowed_images (rowed_cover C)))
+      (tails_word (rowed_cover C) x)
   found_along-joined h =
-      subst (λ (y : List ℕ). Joined (flat (rowed_presentation (cover_presentation C))) (sub (along endos s w) (rowed_images (rowed_cover C))) (tails_word (rowed_cover C) y))
+      subst (λ (y : List ℕ). Joined (flat (rowed_presentation (cover_presentation C)))
+      (sub (along endos s w) (rowed_images (rowed_cover C))) (tails_word (rowed_cover C) y))
       (sym (found.row h))
       (carried-row_joined C is push meaning f lifted endos are s numbers w l found.images found.carried (found.decided.0 h))
 
@@ -187,7 +195,8 @@ module _ (C : CoverOf) (is : IsCover C) (push : State → ℕ → State) (meanin
 
 -- what is found is the row of the word along them
 pub found_along-row : (C : CoverOf) (push : State → ℕ → State) (endos : List (List (List ℤ))) (f : ImagesOf) → AreLifted C push f
-    → (s : List ℕ) (w : List ℤ) (b : Bool) (x : List ℕ) → IsFoundAlong C push endos f s w b x → IsTrue b → IsRowAlongEndos C push endos s w x
+    → (s : List ℕ) (w : List ℤ) (b : Bool) (x : List ℕ) → IsFoundAlong C push endos f s w b x → IsTrue b
+    → IsRowAlongEndos C push endos s w x
 found_along-row C push endos f lifted s w b x found h = record {
   start = f;
   lifted = lifted;
@@ -201,7 +210,9 @@ found_along-row C push endos f lifted s w b x found h = record {
 pub row_along-joined : (C : CoverOf) → IsCover C → (push : State → ℕ → State) → IsMeaning (rowed_presentation (cover_presentation C)) push
     → (endos : List (List (List ℤ))) → AreEndos (length C.answer.names) endos → (s : List ℕ) → AreEndoNumbers (length endos) s
     → (w : List ℤ) → HasLetters (length C.answer.names) w → (x : List ℕ) → IsRowAlongEndos C push endos s w x
-    → Joined (flat (rowed_presentation (cover_presentation C))) (sub (along endos s w) (rowed_images (rowed_cover C))) (tails_word (rowed_cover C) x)
+    → Joined (flat (rowed_presentation (cover_presentation C))) (sub (along endos s w) (rowed_images (rowed_cover C)))
+    (tails_word (rowed_cover C) x)
 row_along-joined C is push meaning endos are s numbers w l x h =
-    subst (λ (y : List ℕ). Joined (flat (rowed_presentation (cover_presentation C))) (sub (along endos s w) (rowed_images (rowed_cover C))) (tails_word (rowed_cover C) y))
+    subst (λ (y : List ℕ). Joined (flat (rowed_presentation (cover_presentation C))) (sub (along endos s w) (rowed_images (rowed_cover C)))
+    (tails_word (rowed_cover C) y))
     (sym h.row) (carried-row_joined C is push meaning h.start h.lifted endos are s numbers w l h.images h.carried h.zero)

@@ -1,5 +1,6 @@
 -- The images of given generators with their tails, one by one: each is the image's word and the row of its tail over zeros.
-use Rattle.std.proofs.Common.{◌≡◌, ◌<◌, ◌≤◌, ◌+◌, ◌-◌, ℕ, zero, suc, Option, List, [], ◌∷◌, ◌++◌, get_or, length, replicate, take, refl, ap, ap₂, sym, ◌∙◌, subst, arith}
+use Rattle.std.proofs.Common.{◌≡◌, ◌<◌, ◌≤◌, ◌+◌, ◌-◌, ℕ, zero, suc, Option, List, [], ◌∷◌, ◌++◌, get_or, length, replicate, take, refl, ap}
+use Rattle.std.proofs.Common.{ap₂, sym, ◌∙◌, subst, arith}
 use Rattle.std.specs.Prelude.{All}
 use Rattle.std.proofs.lemmas.List.{length-map, length-replicate, get_or-map, take_more, take_all}
 use Rattle.std.proofs.lemmas.List.Elements.{All-from_get_or}
@@ -47,13 +48,15 @@ module _ (C : CoverOf) (is : IsAnswer C.answer) where
 
   pub length-lifted_images : length (lifted_images C) ≡ length C.answer.names
   length-lifted_images =
-      length-map (image_states (rowed_cover C)) (λ (s : State). let e : Element = record { prime = C.answer.presentation.prime; state = s } in e)
+      length-map (image_states (rowed_cover C))
+      (λ (s : State). let e : Element = record { prime = C.answer.presentation.prime; state = s } in e)
       ∙ length-states_with C.answer.images (rowed_cover C).image_rows rows_count ∙ is.image_count
 
   pub get_or-lifted_images : (k : ℕ) (d : Element) → k < length C.answer.names → get_or (lifted_images C) k d ≡ lifted_image C (k + 1)
   get_or-lifted_images k d h =
       let count : length C.answer.images ≡ length C.answer.names = is.image_count in
-      let long : length (image_states (rowed_cover C)) ≡ length C.answer.images = length-states_with C.answer.images (rowed_cover C).image_rows rows_count in
+      let long : length (image_states (rowed_cover C)) ≡ length C.answer.images =
+      length-states_with C.answer.images (rowed_cover C).image_rows rows_count in
       let make : State → Element = λ (s : State). let e : Element = record { prime = C.answer.presentation.prime; state = s } in e in
       let back : k ≡ k + 1 - 1 = omega arith in
       let next : 1 + k ≡ k + 1 = omega arith in
@@ -86,7 +89,8 @@ module _ (C : CoverOf) (is : IsAnswer C.answer) where
         presentation = T;
         prime = refl;
         state = record {
-          exponents = subst (λ (i : ℕ). IsNormal C.answer.presentation.prime C.answer.presentation.rank (get_or C.answer.images i [])) (sym back)
+          exponents =
+              subst (λ (i : ℕ). IsNormal C.answer.presentation.prime C.answer.presentation.rank (get_or C.answer.images i [])) (sym back)
               (normal-entry C.answer.presentation.prime C.answer.presentation.rank C.answer.images k is.images (omega arith));
           row = row_of-normal C.answer.presentation.prime (length C.sources) (place_in C.sources (image (k + 1)))
               T.presentation.prime;
@@ -115,7 +119,8 @@ module _ (C : CoverOf) (i : ℕ) (e : Element) (w : List Syllable) (zeros : e �
   image-tail f t h q =
       subst (λ (n : ℕ). IsTail n t) (sym (width f h)) (subst (IsTail (length C.sources)) (sym q) (IsTail-place_in C.sources (image i)))
 
-  module _ (is : IsAnswer C.answer) (first : 1 ≤ i) (last : i ≤ length C.answer.names) (word : w ≡ syllables_of 0 (image_exponents C i)) where
+  module _ (is : IsAnswer C.answer) (first : 1 ≤ i) (last : i ≤ length C.answer.names)
+      (word : w ≡ syllables_of 0 (image_exponents C i)) where
     image-normal : IsNormal C.answer.presentation.prime C.answer.presentation.rank (image_exponents C i)
     image-normal =
         let count : length C.answer.images ≡ length C.answer.names = is.image_count in
@@ -137,7 +142,8 @@ module _ (C : CoverOf) (i : ℕ) (e : Element) (w : List Syllable) (zeros : e �
         ap (λ (n : ℕ). spread n 0 w) (zeros_count ∙ sym image-normal.count) ∙ ap (spread (length (image_exponents C i)) 0) word
         ∙ spread-syllables_of 0 (image_exponents C i)
 
-    pub lifted-steps : (f g : Element) (t : Option ℕ) → f ≡ with_word e → t ≡ place_in C.sources (image i) → g ≡ with_row t f → g ≡ lifted_image C i
+    pub lifted-steps : (f g : Element) (t : Option ℕ) → f ≡ with_word e → t ≡ place_in C.sources (image i) → g ≡ with_row t f
+        → g ≡ lifted_image C i
     lifted-steps f g t h q r =
         let made : Element = record {
           prime = C.answer.presentation.prime;

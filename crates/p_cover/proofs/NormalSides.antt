@@ -38,14 +38,16 @@ no_memory_apart o = elim o [
   ]
 ]
 
-module _ (A : Answer) (is : IsPresentation A.presentation) (r : Relation) (h : IsRelation A.presentation.rank r) (D : Draft) (draft : IsDraftOf A D)
+module _ (A : Answer) (is : IsPresentation A.presentation) (r : Relation) (h : IsRelation A.presentation.rank r) (D : Draft)
+    (draft : IsDraftOf A D)
     (tail : Option ℕ) (t : IsTail D.built.tails tail) (w : List Syllable) (word : w ≡ side_word A.presentation r) where
   syllables : AreSyllables D.built.presentation.prime D.built.presentation.rank (side_start r) w
   syllables =
       let count = right_side-count A.presentation is r h in
       let rank = draft.rank in
       subst (λ (v : List Syllable). AreSyllables D.built.presentation.prime D.built.presentation.rank (side_start r) v) (sym word)
-      (AreSyllables-syllables_of D.built.presentation.prime D.built.presentation.rank (side_start r) (right_side A.presentation r) (omega arith)
+      (AreSyllables-syllables_of D.built.presentation.prime D.built.presentation.rank (side_start r) (right_side A.presentation r)
+      (omega arith)
       (subst (λ (p : ℕ). AllBelow p (right_side A.presentation r)) (sym draft.prime) (right_side-below A.presentation is r h)))
 
   in_range : AreInRange D r w tail

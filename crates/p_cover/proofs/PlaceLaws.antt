@@ -1,5 +1,6 @@
 -- The place of a source in a list: none where no entry is the source, and else that of the first such entry.
-use Rattle.std.proofs.Common.{◌≡◌, ◌<◌, ◌≤◌, ◌+◌, ◌-◌, ℕ, zero, suc, Bool, true, false, eqb, Option, None, Some, List, [], ◌∷◌, get_or, length, drop, refl, ap, sym, ◌∙◌, subst, inl, inr, arith}
+use Rattle.std.proofs.Common.{◌≡◌, ◌<◌, ◌≤◌, ◌+◌, ◌-◌, ℕ, zero, suc, Bool, true, false, eqb, Option, None, Some, List, [], ◌∷◌, get_or}
+use Rattle.std.proofs.Common.{length, drop, refl, ap, sym, ◌∙◌, subst, inl, inr, arith}
 use Rattle.std.specs.Prelude.{All}
 use Rattle.std.proofs.lemmas.Bool.{false≢true, eqb-true, and_parts, cases_Bool, false_from_ne_true}
 use Rattle.std.proofs.lemmas.List.{drop_more}

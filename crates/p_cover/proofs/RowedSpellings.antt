@@ -1,6 +1,7 @@
 -- In every answer with rows each generator is joined in the flat reading to the word that it spells, under the images with
 -- their rows: what defines a generator has the row of zeros.
-use Rattle.std.proofs.Common.{◌≡◌, ℕ, zero, suc, ◌<◌, ℤ, List, [], ◌∷◌, ◌++◌, get_or, length, map, replicate, refl, ap, sym, ◌∙◌, subst, arith}
+use Rattle.std.proofs.Common.{◌≡◌, ℕ, zero, suc, ◌<◌, ℤ, List, [], ◌∷◌, ◌++◌, get_or, length, map, replicate, refl, ap, sym, ◌∙◌, subst}
+use Rattle.std.proofs.Common.{arith}
 use Rattle.std.proofs.lemmas.List.{append-nil}
 use Rattle.std.proofs.Math.ListN.{get_or-map}
 use Rattle.pq_base.specs.SignedWord.{copies, comm, sub}
@@ -31,7 +32,8 @@ pub rowed_image : (Y : RowedAnswer) → IsRowedAnswer Y → (i : ℕ)
     → get_or (rowed_images Y) i [] ≡ get_or (image_words Y.answer) i [] ++ word_from Y.answer.presentation.rank (get_or Y.image_rows i [])
 rowed_image Y is i =
     word_of-states_with (rowed Y) Y.answer.images Y.image_rows i (is.answer.image_count ∙ sym is.image_count)
-    ∙ ap (λ (w : List ℤ). w ++ word_from Y.answer.presentation.rank (get_or Y.image_rows i [])) (sym (get_or-map normal_word Y.answer.images i []))
+    ∙ ap (λ (w : List ℤ). w ++ word_from Y.answer.presentation.rank (get_or Y.image_rows i []))
+    (sym (get_or-map normal_word Y.answer.images i []))
 
 module _ (Y : RowedAnswer) (is : IsRowedAnswer Y) where
   -- a word and the row of zeros
@@ -53,7 +55,8 @@ module _ (Y : RowedAnswer) (is : IsRowedAnswer Y) where
   defined k (commutator (suc j) (suc i)) l d r =
       let below : i < j = d.1 in
       let before : j < k = d.2 in
-      let side : commutator_word Y.answer.presentation j i ++ word_from Y.answer.presentation.rank (commutator_row (rowed Y) j i) ≡ letter k =
+      let side : commutator_word Y.answer.presentation j i ++ word_from Y.answer.presentation.rank (commutator_row (rowed Y) j i)
+      ≡ letter k =
       zero_row (commutator_word Y.answer.presentation j i) (commutator_row (rowed Y) j i) r ∙ d.3 in
       let relation : Joined (flat (rowed Y)) (comm (letter j) (letter i)) (letter k) =
       subst (λ (w : List ℤ). Joined (flat (rowed Y)) (comm (letter j) (letter i)) w) side
@@ -69,7 +72,8 @@ module _ (Y : RowedAnswer) (is : IsRowedAnswer Y) where
       (power-with_row (rowed Y) is.presentation j (omega arith)) in
       (before, joined-sym relation)
 
-  pub spelled-with_rows : (k : ℕ) → k < Y.answer.presentation.rank → Joined (flat (rowed Y)) (letter k) (sub (spell Y.answer k) (rowed_images Y))
+  pub spelled-with_rows : (k : ℕ) → k < Y.answer.presentation.rank
+      → Joined (flat (rowed Y)) (letter k) (sub (spell Y.answer k) (rowed_images Y))
   spelled-with_rows k l =
       let count : length Y.answer.definitions ≡ Y.answer.presentation.rank = is.answer.definition_count in
       let all = definitions-spelled (flat (rowed Y)) (rowed_images Y) Y.answer.presentation.prime Y.answer.definitions

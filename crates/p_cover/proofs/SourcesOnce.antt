@@ -1,13 +1,15 @@
 -- The sources of the full cover are the relations and images that define no generator, each once; and in a part of them the
 -- tail of a source is the number of the source of that tail.
-use Rattle.std.proofs.Common.{◌≡◌, ◌≢◌, ◌<◌, ◌≤◌, ◌+◌, ◌-◌, ℕ, zero, suc, Bool, true, false, not, Some, List, [], ◌∷◌, ◌++◌, get_or, length, refl, ap, sym, ◌∙◌, subst, inl, inr, arith}
+use Rattle.std.proofs.Common.{◌≡◌, ◌≢◌, ◌<◌, ◌≤◌, ◌+◌, ◌-◌, ℕ, zero, suc, Bool, true, false, not, Some, List, [], ◌∷◌, ◌++◌, get_or, length}
+use Rattle.std.proofs.Common.{refl, ap, sym, ◌∙◌, subst, inl, inr, arith}
 use Rattle.std.specs.Prelude.{filter}
 use Rattle.std.specs.List.{AllPairs, Contains}
 use Rattle.std.proofs.lemmas.Bool.{cases_Bool, cases_eq, false_from_ne_true, false≢true, or_from, not-true, not_from_false}
 use Rattle.std.proofs.lemmas.List.Elements.{All-contains, Contains-append_left, Contains-append_right}
 use Rattle.pq_base.specs.Answer.{Answer, Definition as Source, IsAnswer, class_of, definition_at}
 use Rattle.pq_base.specs.Answer.Definition.{image, commutator, power}
-use Rattle.pq_base.specs.Canonical.{numbers_from, same_definition, is_among, commutators_of, commutators_up_to, all_commutators, all_powers, all_images, is_qualifying, preferred}
+use Rattle.pq_base.specs.Canonical.{numbers_from, same_definition, is_among, commutators_of, commutators_up_to, all_commutators, all_powers}
+use Rattle.pq_base.specs.Canonical.{all_images, is_qualifying, preferred}
 use Rattle.pq_base.proofs.vectors.CanonicalTests.{same-definition_refl}
 use Rattle.p_cover.specs.Sources.{place_in}
 use Rattle.p_cover.specs.Covers.{all_sources}
@@ -89,23 +91,27 @@ module _ (A : Answer) where
 
     in_fourth : (d : Source) → Contains (filter later ps) d → Contains (preferred A (suc k)) d
     in_fourth d c =
-        after_two d (Contains-append_right (filter later cs) (filter later ps ++ images) d (Contains-append_left (filter later ps) images d c))
+        after_two d (Contains-append_right (filter later cs) (filter later ps ++ images) d
+        (Contains-append_left (filter later ps) images d c))
 
     in_fifth : (d : Source) → Contains images d → Contains (preferred A (suc k)) d
     in_fifth d c =
-        after_two d (Contains-append_right (filter later cs) (filter later ps ++ images) d (Contains-append_right (filter later ps) images d c))
+        after_two d (Contains-append_right (filter later cs) (filter later ps ++ images) d
+        (Contains-append_right (filter later ps) images d c))
 
     in_preferred : (d : Source) → IsSource A d → Contains (preferred A (suc k)) d
     in_preferred (image i) h = in_fifth (image i) (Contains-images i (length A.names) h.0 h.1)
     in_preferred (commutator j i) h = elim (cases_Bool (is_qualifying A (suc k) (commutator j i))) [
       | inl is ↦ in_first (commutator j i) (Contains-filter now cs (commutator j i) (Contains-commutators j i h) is)
       | inr isnt ↦
-          in_third (commutator j i) (Contains-filter later cs (commutator j i) (Contains-commutators j i h) (not_from_false (now (commutator j i)) isnt))
+          in_third (commutator j i)
+          (Contains-filter later cs (commutator j i) (Contains-commutators j i h) (not_from_false (now (commutator j i)) isnt))
     ]
     in_preferred (power j) h = elim (cases_Bool (is_qualifying A (suc k) (power j))) [
       | inl is ↦ in_second (power j) (Contains-filter now ps (power j) (Contains-powers j A.presentation.rank h.0 h.1) is)
       | inr isnt ↦
-          in_fourth (power j) (Contains-filter later ps (power j) (Contains-powers j A.presentation.rank h.0 h.1) (not_from_false (now (power j)) isnt))
+          in_fourth (power j) (Contains-filter later ps (power j) (Contains-powers j A.presentation.rank h.0 h.1)
+          (not_from_false (now (power j)) isnt))
     ]
 
   -- at class 0 there are no relations

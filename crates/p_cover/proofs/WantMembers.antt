@@ -8,7 +8,8 @@ use Rattle.std.proofs.lemmas.List.Filters.{length-filter_both}
 use Rattle.pq_base.specs.Limits.{max_names, max_rank}
 use Rattle.pq_base.specs.Answer.{Answer, Definition as Source, class_of}
 use Rattle.pq_base.specs.Answer.Definition.{image, commutator, power}
-use Rattle.pq_base.specs.Canonical.{numbers_from, is_among, commutators_of, commutators_up_to, all_commutators, all_powers, all_images, is_qualifying, preferred}
+use Rattle.pq_base.specs.Canonical.{numbers_from, is_among, commutators_of, commutators_up_to, all_commutators, all_powers, all_images}
+use Rattle.pq_base.specs.Canonical.{is_qualifying, preferred}
 use Rattle.p_cover.specs.Sources.{IsPartOf}
 use Rattle.p_cover.specs.Covers.{all_sources}
 use Rattle.p_cover.specs.CoverLaws.{IsSource}
@@ -62,7 +63,8 @@ module _ (A : Answer) where
       all_images-sources)))
 
   pub all_sources-sources : All (IsSource A) (all_sources A)
-  all_sources-sources = All-filter (λ d. not (is_among d A.definitions)) (IsSource A) (preferred A (class_of A)) (preferred-sources (class_of A))
+  all_sources-sources =
+      All-filter (λ d. not (is_among d A.definitions)) (IsSource A) (preferred A (class_of A)) (preferred-sources (class_of A))
 
   pub all_sources-undefined : All (λ d. not (is_among d A.definitions) ≡ true) (all_sources A)
   all_sources-undefined = filter_passes (λ d. not (is_among d A.definitions)) (preferred A (class_of A))

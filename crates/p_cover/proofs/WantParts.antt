@@ -1,5 +1,6 @@
 -- The want order has five parts: no source is in two of them, none comes twice in one, and those that qualify come first.
-use Rattle.std.proofs.Common.{◌≡◌, ◌≢◌, ◌<◌, ◌≤◌, ◌+◌, ℕ, zero, suc, Bool, true, not, cond, List, [], ◌∷◌, ◌++◌, get_or, length, map, refl, ap, sym, ◌∙◌, inl, inr, arith}
+use Rattle.std.proofs.Common.{◌≡◌, ◌≢◌, ◌<◌, ◌≤◌, ◌+◌, ℕ, zero, suc, Bool, true, not, cond, List, [], ◌∷◌, ◌++◌, get_or, length, map, refl}
+use Rattle.std.proofs.Common.{ap, sym, ◌∙◌, inl, inr, arith}
 use Rattle.std.specs.Prelude.{All, filter}
 use Rattle.std.specs.List.{AllPairs}
 use Rattle.std.proofs.lemmas.Bool.{cases_Bool, cond-true, cond-false, not-true, false≢true}
@@ -8,7 +9,8 @@ use Rattle.std.proofs.lemmas.List.Elements.{All-nil, All-append, All-map, All-fi
 use Rattle.std.proofs.lemmas.List.Kept.{AllPairs-filter}
 use Rattle.pq_base.specs.Answer.{Answer, Definition as Source, class_of}
 use Rattle.pq_base.specs.Answer.Definition.{image, commutator, power}
-use Rattle.pq_base.specs.Canonical.{numbers_from, is_among, commutators_of, commutators_up_to, all_commutators, all_powers, all_images, is_qualifying, preferred}
+use Rattle.pq_base.specs.Canonical.{numbers_from, is_among, commutators_of, commutators_up_to, all_commutators, all_powers, all_images}
+use Rattle.pq_base.specs.Canonical.{is_qualifying, preferred}
 use Rattle.p_cover.specs.Covers.{all_sources}
 use Rattle.p_cover.specs.CoverLaws.{QualifyingSourcesComeFirst}
 use Rattle.pq_base.proofs.NumberLists.{length-numbers_from, get_or-map_numbers}
@@ -66,7 +68,8 @@ later-rows a zero = All-nil (λ d. a ≤ first_of d)
 later-rows a (suc n) =
     All-append (λ d. a ≤ first_of d) (commutators_of a) (commutators_up_to (numbers_from (suc a) n))
     (All-weaker (λ d. first_of d ≡ a) (λ d. a ≤ first_of d) (λ d e. omega arith) (commutators_of a) (first-of-row a))
-    (All-weaker (λ d. suc a ≤ first_of d) (λ d. a ≤ first_of d) (λ d e. omega arith) (commutators_up_to (numbers_from (suc a) n)) (later-rows (suc a) n))
+    (All-weaker (λ d. suc a ≤ first_of d) (λ d. a ≤ first_of d) (λ d e. omega arith) (commutators_up_to (numbers_from (suc a) n))
+    (later-rows (suc a) n))
 
 apart-rows : (a n : ℕ) → AllPairs Apart (commutators_up_to (numbers_from a n))
 apart-rows a zero = AllPairs-nil Apart
@@ -214,7 +217,8 @@ preferred-in_order A (suc k) = parts-in_order A (suc k) A.presentation.rank (len
 
 pub all_sources-in_order : (A : Answer) → AllPairs (IsBefore A (class_of A)) (all_sources A)
 all_sources-in_order A =
-    AllPairs-filter (IsBefore A (class_of A)) (λ d. not (is_among d A.definitions)) (preferred A (class_of A)) (preferred-in_order A (class_of A))
+    AllPairs-filter (IsBefore A (class_of A)) (λ d. not (is_among d A.definitions)) (preferred A (class_of A))
+    (preferred-in_order A (class_of A))
 
 pub all_sources-apart : (A : Answer) → AllPairs (λ d e. d ≢ e) (all_sources A)
 all_sources-apart A = AllPairs-weaker (IsBefore A (class_of A)) (λ d e. d ≢ e) (λ d e b. b.apart) (all_sources A) (all_sources-in_order A)

@@ -1,13 +1,15 @@
 -- The want order part by part: each part is read from its range of numbers, entry by entry, and the parts together are the
 -- want order.
-use Rattle.std.proofs.Common.{◌≡◌, ◌≤◌, ◌+◌, ◌-◌, ℕ, zero, suc, Bool, true, false, ◌&&◌, not, cond, List, [], ◌∷◌, ◌++◌, get_or, length, map, refl, ap, sym, ◌∙◌, append_assoc, append-nil, arith}
+use Rattle.std.proofs.Common.{◌≡◌, ◌≤◌, ◌+◌, ◌-◌, ℕ, zero, suc, Bool, true, false, ◌&&◌, not, cond, List, [], ◌∷◌, ◌++◌, get_or, length}
+use Rattle.std.proofs.Common.{map, refl, ap, sym, ◌∙◌, append_assoc, append-nil, arith}
 use Rattle.std.specs.Prelude.{filter}
 use Rattle.std.proofs.lemmas.Bool.{cond-true, cond-false}
 use Rattle.std.proofs.lemmas.List.{map_push}
 use Rattle.std.proofs.lemmas.List.Elements.{filter-append}
 use Rattle.pq_base.specs.Answer.{Answer, Definition as Source, IsAnswer, class_of}
 use Rattle.pq_base.specs.Answer.Definition.{image, commutator}
-use Rattle.pq_base.specs.Canonical.{numbers_from, weight_of, is_among, is_qualifying, commutators_of, commutators_up_to, all_commutators, all_powers, all_images, want_order}
+use Rattle.pq_base.specs.Canonical.{numbers_from, weight_of, is_among, is_qualifying, commutators_of, commutators_up_to, all_commutators}
+use Rattle.pq_base.specs.Canonical.{all_powers, all_images, want_order}
 use Rattle.pc_presentation.specs.declared.definition.Definition.{Definition}
 use Rattle.pc_presentation.specs.Definition.{definition_of}
 use Rattle.p_cover.specs.Covers.{all_sources}
@@ -38,7 +40,8 @@ module _ (A : Answer) (k : ℕ) (first : Bool) where
       ∙ sym (append_assoc (commutators_of x) (commutators_up_to xs) (commutators_up_to ys))
 
   pub wanted-more_rows : (i : ℕ) (start old new : List Source) → old ≡ start ++ wanted A k first (commutators_up_to (numbers_from 1 i))
-      → new ≡ old ++ wanted A k first (commutators_of (i + 1)) → new ≡ start ++ wanted A k first (commutators_up_to (numbers_from 1 (i + 1)))
+      → new ≡ old ++ wanted A k first (commutators_of (i + 1))
+      → new ≡ start ++ wanted A k first (commutators_up_to (numbers_from 1 (i + 1)))
   wanted-more_rows i start old new =
       wanted_step start (commutators_up_to (numbers_from 1 i)) (commutators_of (i + 1)) (commutators_up_to (numbers_from 1 (i + 1))) old new
       (ap commutators_up_to (numbers-more i) ∙ commutators_up_to-append (numbers_from 1 i) ((i + 1) ∷ [])
@@ -49,18 +52,21 @@ module _ (A : Answer) (k : ℕ) (first : Bool) where
       → map definition_of ys ≡ map definition_of xs ++ wanted A k first (definition_of s ∷ [])
   put_wanted xs ys s h e =
       ap (map definition_of) e ∙ map_push definition_of xs s
-      ∙ ap (λ (l : List Source). map definition_of xs ++ l) (sym (cond-true (is_wanted A k first (definition_of s)) (definition_of s ∷ []) [] h))
+      ∙ ap (λ (l : List Source). map definition_of xs ++ l)
+      (sym (cond-true (is_wanted A k first (definition_of s)) (definition_of s ∷ []) [] h))
 
   pub put_unwanted : (xs : List Definition) (s : Definition) → is_wanted A k first (definition_of s) ≡ false
       → map definition_of xs ≡ map definition_of xs ++ wanted A k first (definition_of s ∷ [])
   put_unwanted xs s h =
       sym (append-nil (map definition_of xs))
-      ∙ ap (λ (l : List Source). map definition_of xs ++ l) (sym (cond-false (is_wanted A k first (definition_of s)) (definition_of s ∷ []) [] h))
+      ∙ ap (λ (l : List Source). map definition_of xs ++ l)
+      (sym (cond-false (is_wanted A k first (definition_of s)) (definition_of s ∷ []) [] h))
 
 -- the commutators of a generator from the place before it
 pub commutators_of-before : (j : ℕ) → 1 ≤ j → map (λ i. commutator j i) (numbers_from 1 (j - 1)) ≡ commutators_of j
 commutators_of-before zero h = absurd (omega arith)
-commutators_of-before (suc m) h = let less : suc m - 1 ≡ m = omega arith in ap (λ (n : ℕ). map (λ i. commutator (suc m) i) (numbers_from 1 n)) less
+commutators_of-before (suc m) h = let less : suc m - 1 ≡ m = omega arith in
+    ap (λ (n : ℕ). map (λ i. commutator (suc m) i) (numbers_from 1 n)) less
 
 pub weight_of-at : (A : Answer) (j : ℕ) → 1 ≤ j → get_or A.weights (j - 1) 0 ≡ weight_of A j
 weight_of-at A zero h = absurd (omega arith)
@@ -144,6 +150,7 @@ module _ (A : Answer) where
       let c = class_of A in
       let f1 : l1 ≡ wanted A c true cs = e1 ∙ ap (λ (l : List Source). l ++ wanted A c true cs) e0 in
       let f2 : l2 ≡ wanted A c true cs ++ wanted A c true ps = e2 ∙ ap (λ (l : List Source). l ++ wanted A c true ps) f1 in
-      let f3 : l3 ≡ (wanted A c true cs ++ wanted A c true ps) ++ wanted A c false cs = e3 ∙ ap (λ (l : List Source). l ++ wanted A c false cs) f2 in
+      let f3 : l3 ≡ (wanted A c true cs ++ wanted A c true ps) ++ wanted A c false cs =
+      e3 ∙ ap (λ (l : List Source). l ++ wanted A c false cs) f2 in
       let f4 = e4 ∙ ap (λ (l : List Source). l ++ wanted A c false ps) f3 in
       e5 ∙ ap (λ (l : List Source). l ++ wanted A c false images) f4 ∙ sym (all_sources-parts is)

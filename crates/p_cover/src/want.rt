@@ -2,7 +2,8 @@
 
 ghost use Rattle.std.specs.Prelude.{◌≡◌, ◌≤◌, ◌++◌, ◌∷◌, [], false, IfOk, OnOk, map, length};
 ghost use Rattle.pq_base.specs.Answer.{class_of};
-ghost use Rattle.pq_base.specs.Canonical.{same_definition, is_among, commutators_of, all_commutators, all_powers, all_images, is_qualifying};
+ghost use Rattle.pq_base.specs.Canonical.{same_definition, is_among, commutators_of, all_commutators, all_powers, all_images};
+ghost use Rattle.pq_base.specs.Canonical.{is_qualifying};
 ghost use Rattle.pc_presentation.specs.Definition.{definition_of};
 ghost use Rattle.p_cover.specs.Covers.{all_sources};
 ghost use Rattle.p_cover.specs.CoverLaws.{IsSource};
@@ -36,7 +37,8 @@ fn push_commutators(
     qualifying: bool,
 ) -> Result<(), NoMemory>
     ensures { OnOk result (map definition_of sources.new.items
-        ≡ map definition_of sources.old.items ++ wanted answer.now (class_of answer.now) qualifying (all_commutators answer.now.presentation.rank)) }
+        ≡ map definition_of sources.old.items
+        ++ wanted answer.now (class_of answer.now) qualifying (all_commutators answer.now.presentation.rank)) }
 {
     for k in 0..answer.pcp().rank() {
         push_commutators_of(sources, answer, qualifying, k + 1)?;
@@ -74,7 +76,8 @@ pub fn push_powers(
     qualifying: bool,
 ) -> Result<(), NoMemory>
     ensures { OnOk result (map definition_of sources.new.items
-        ≡ map definition_of sources.old.items ++ wanted answer.now (class_of answer.now) qualifying (all_powers answer.now.presentation.rank)) }
+        ≡ map definition_of sources.old.items
+        ++ wanted answer.now (class_of answer.now) qualifying (all_powers answer.now.presentation.rank)) }
 {
     for k in 0..answer.pcp().rank() {
         push_wanted(sources, answer, qualifying, Definition::Power(k + 1))?;

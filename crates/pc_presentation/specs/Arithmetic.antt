@@ -52,6 +52,7 @@ pub record HasArithmetic (Y : RowedPresentation) (push : State → ℕ → State
   pub inverses : (u e : State) → IsState Y Y.base.rank u → IsState Y Y.base.rank e → product_by Y push u e ≡ identity Y Y.base.rank
       → Joined (flat Y) (word_of Y e) (inv (word_of Y u))
   pub commutators : (u v e : State) → IsState Y Y.base.rank u → IsState Y Y.base.rank v → IsState Y Y.base.rank e
-      → product_by Y push (product_by Y push v u) e ≡ product_by Y push u v → Joined (flat Y) (word_of Y e) (comm (word_of Y u) (word_of Y v))
+      → product_by Y push (product_by Y push v u) e ≡ product_by Y push u v
+      → Joined (flat Y) (word_of Y e) (comm (word_of Y u) (word_of Y v))
   pub values : (f g : List State) (s : State) (w : List ℤ) → AreImages Y push f g → IsState Y Y.base.rank s → HasLetters (length f) w
       → Joined (flat Y) (word_of Y (evaluate_from Y push f g s w)) (word_of Y s ++ sub w (map (word_of Y) f))

@@ -8,7 +8,8 @@ use Rattle.pq_base.specs.Presentation.{Presentation, IsPresentation, IsNormal, l
 use Rattle.pq_base.specs.Joined.{Joined, Reaches, IsConsistent}
 use Rattle.pq_base.specs.Series.{HasClass}
 use Rattle.pc_presentation.specs.Rowed.{RowedPresentation, IsRowed, power_row, commutator_row, row_sum, without_rows, flat}
-use Rattle.pc_presentation.specs.Collection.{Configuration, State, IsState, identity, configuration_of, signed_word, DirectedRun, add_row, push_configuration, plain_push}
+use Rattle.pc_presentation.specs.Collection.{Configuration, State, IsState, identity, configuration_of, signed_word, DirectedRun, add_row}
+use Rattle.pc_presentation.specs.Collection.{push_configuration, plain_push}
 use Rattle.pc_presentation.specs.Arithmetic.{IsMeaning, HasArithmetic}
 use Rattle.pc_presentation.specs.NormalTable.{normal_table, NormalWordsAreATable}
 use Rattle.pc_presentation.specs.Overlaps.{Overlap, IsOverlap, left_way, right_way, AgreesPlainly, IsPushed, Agrees}
@@ -41,7 +42,8 @@ DirectedRunsAreJoined = (Y : RowedPresentation) → IsRowed Y → (c d : Configu
 -- so a push of the plain rule is joined to the word with the letter behind it
 abbrev pub PlainPushesAreJoined : Type 0
 PlainPushesAreJoined = (Y : RowedPresentation) → IsRowed Y → (s : State) (i : ℕ) → IsState Y Y.base.rank s → i < Y.base.rank
-    → Joined (flat Y) (signed_word Y.base.rank (configuration_of s) ++ letter i) (signed_word Y.base.rank (configuration_of (plain_push Y s i)))
+    → Joined (flat Y) (signed_word Y.base.rank (configuration_of s) ++ letter i)
+    (signed_word Y.base.rank (configuration_of (plain_push Y s i)))
 
 -- each signed word over the generators is joined to a normal word, in every presentation
 abbrev pub WordsReachNormalWords : Type 0
@@ -68,7 +70,8 @@ ConsistentPresentationsHaveTables = (P : Presentation) → IsPresentation P → 
 
 -- the class of a consistent presentation is that of its table
 abbrev pub TablesHaveTheClass : Type 0
-TablesHaveTheClass = (P : Presentation) → IsPresentation P → IsConsistent P → (k : ℕ) → HasClass P k ↔ HasTableClass (normal_table P) P.prime k
+TablesHaveTheClass =
+    (P : Presentation) → IsPresentation P → IsConsistent P → (k : ℕ) → HasClass P k ↔ HasTableClass (normal_table P) P.prime k
 
 -- the plain rule is the meaning of a collector
 abbrev pub PlainRuleIsAMeaning : Type 0
@@ -103,7 +106,8 @@ ConsistentOverlapsAgree = (Y : RowedPresentation) → IsRowed Y → IsConsistent
 abbrev pub OverlapsOverConsistentBase : Type 0
 OverlapsOverConsistentBase = (Y : RowedPresentation) → IsRowed Y → IsConsistent Y.base
     → (push : State → ℕ → State) → IsMeaning Y push → (o : Overlap) → IsOverlap Y.base.rank o
-    → SameUpToRow Y (push_configuration Y push (identity Y Y.base.rank) (left_way Y o)) (push_configuration Y push (identity Y Y.base.rank) (right_way Y o))
+    → SameUpToRow Y (push_configuration Y push (identity Y Y.base.rank) (left_way Y o))
+    (push_configuration Y push (identity Y Y.base.rank) (right_way Y o))
 
 -- a map of rows that keeps sums and takes the rows of the relations of Y to those of Z: a linear map, or one that leaves
 -- out columns

@@ -30,7 +30,8 @@ abbrev pub CommutingLettersStay : Type 0
 CommutingLettersStay = (Y : RowedPresentation) (s : State) (i z : ℕ) → IsRowed Y → IsState Y Y.base.rank s → i < Y.base.rank
     → i < z → z ≤ Y.base.rank → CommuteFrom Y i z
     → plain_push Y s i
-    ≡ push_word (passed Y i) (raised Y (record { exponents = cleared_between i z s.exponents; row = s.row }) i) (letters_between i z s.exponents)
+    ≡ push_word (passed Y i) (raised Y (record { exponents = cleared_between i z s.exponents; row = s.row }) i)
+    (letters_between i z s.exponents)
 
 -- so, where no letter is passed, copies of a generator whose exponent passes the prime are the right side of its power, and the rest of
 -- the copies pushed behind it
@@ -40,5 +41,6 @@ PowersWrapBeforeCommutingLetters = (Y : RowedPresentation) (s : State) (i z e r 
     → ((l : ℕ) → i < l → l < z → get_or s.exponents l 0 ≡ 0) → get_or s.exponents i 0 + e ≡ Y.base.prime + r → r < Y.base.prime
     → push_word (plain_push Y) s (replicate e i)
     ≡ push_word (plain_push Y)
-    (push_configuration Y (plain_push Y) (with_exponent s i 0) (record { word = spelled (suc i) (power_side Y.base i); row = power_row Y i }))
+    (push_configuration Y (plain_push Y) (with_exponent s i 0)
+    (record { word = spelled (suc i) (power_side Y.base i); row = power_row Y i }))
     (replicate r i)

@@ -36,7 +36,9 @@ product_of P e f = (push_word (plain_push (without_rows P)) (record { exponents 
 unfoldable pub normal_table : Presentation → Table
 normal_table P = record {
   size = P.prime ^ P.rank;
-  rows = list_from (λ (a : ℕ). list_from (λ (b : ℕ). number_of P.prime (product_of P (digits P.prime P.rank a) (digits P.prime P.rank b))) 0 (P.prime ^ P.rank)) 0 (P.prime ^ P.rank);
+  rows = list_from (λ (a : ℕ).
+      list_from (λ (b : ℕ). number_of P.prime (product_of P (digits P.prime P.rank a) (digits P.prime P.rank b))) 0 (P.prime ^ P.rank)) 0
+      (P.prime ^ P.rank);
 }
 
 -- the numbers of the generators
@@ -53,6 +55,7 @@ pub record NormalWordsAreATable (P : Presentation) : Type 0 where
       → times (normal_table P) (number_of P.prime e) (number_of P.prime f) ≡ number_of P.prime (product_of P e f)
   pub generators : AllBelow (normal_table P).size (generator_numbers P)
   pub relators : (r : List ℤ) → IsRelatorOf P r → value (normal_table P) (generator_numbers P) r ≡ 0
-  pub normal_words : (e : List ℕ) → IsNormal P.prime P.rank e → value (normal_table P) (generator_numbers P) (normal_word e) ≡ number_of P.prime e
+  pub normal_words : (e : List ℕ) → IsNormal P.prime P.rank e
+      → value (normal_table P) (generator_numbers P) (normal_word e) ≡ number_of P.prime e
   pub joined : (u v : List ℤ) → HasLetters P.rank u → HasLetters P.rank v
       → Joined P u v ↔ (value (normal_table P) (generator_numbers P) u ≡ value (normal_table P) (generator_numbers P) v)

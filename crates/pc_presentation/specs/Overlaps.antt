@@ -3,7 +3,8 @@
 use Rattle.std.specs.Prelude.{◌≡◌, ◌<◌, ℕ, suc, List, [], ◌∷◌, ◌++◌, replicate, pred}
 use Rattle.pq_base.specs.Presentation.{power_side, commutator_side}
 use Rattle.pc_presentation.specs.Rowed.{RowedPresentation, power_row, commutator_row}
-use Rattle.pc_presentation.specs.Collection.{Configuration, State, IsState, identity, spelled, configuration_of, DirectedRun, add_row, push_configuration, plain_push}
+use Rattle.pc_presentation.specs.Collection.{Configuration, State, IsState, identity, spelled, configuration_of, DirectedRun, add_row}
+use Rattle.pc_presentation.specs.Collection.{push_configuration, plain_push}
 
 -- the places of generators, counted from 0
 pub data Overlap : Type 0 where

@@ -33,7 +33,8 @@ abbrev pub AreImages : ℕ → ℕ → List (List Syllable) → Type 0
 AreImages p n words = All (λ w. AreSyllables p n 0 w) words
 
 -- the conditions of an answer: no tails, normal words, and those of what they make together
-pub record AreParts (T : TailedPresentation) (names : List (List ℕ)) (definitions : List Definition) (words : List (List Syllable)) : Type 0 where
+pub record AreParts (T : TailedPresentation) (names : List (List ℕ)) (definitions : List Definition)
+    (words : List (List Syllable)) : Type 0 where
   pub no_tails : T.tails ≡ 0
   pub normal : AreImages T.presentation.prime T.presentation.rank words
   pub answer : IsAnswer (answer_of T names definitions words)
@@ -56,7 +57,8 @@ are_weights least [] = true
 are_weights least (w ∷ ws) = nat_le least w && (nat_le w max_class && are_weights w ws)
 
 -- the conditions one by one, as they are tested
-pub record AreTested (T : TailedPresentation) (names : List (List ℕ)) (definitions : List Definition) (words : List (List Syllable)) : Type 0 where
+pub record AreTested (T : TailedPresentation) (names : List (List ℕ)) (definitions : List Definition)
+    (words : List (List Syllable)) : Type 0 where
   pub no_tails : T.tails ≡ 0
   pub rising : are_weights 1 T.weights ≡ true
   pub some_name : 1 ≤ length names

@@ -1,6 +1,7 @@
 -- Presentations with tails: weights of the generators, and for each relation one of the tails or none.
 -- A tail stands for a central generator of order p that the relation's right side ends with.
-use Rattle.std.specs.Prelude.{◌≡◌, ◌<◌, ◌≤◌, ◌-◌, ℕ, zero, suc, List, [], ◌∷◌, get_or, length, map, Option, Some, None, replicate, cond, eqb}
+use Rattle.std.specs.Prelude.{◌≡◌, ◌<◌, ◌≤◌, ◌-◌, ℕ, zero, suc, List, [], ◌∷◌, get_or, length, map, Option, Some, None, replicate, cond}
+use Rattle.std.specs.Prelude.{eqb}
 use Rattle.pq_base.specs.Presentation.{Presentation, IsPresentation}
 use Rattle.pq_base.specs.Limits.{max_rank}
 use Rattle.pq_base.specs.Prime.{IsOffered}

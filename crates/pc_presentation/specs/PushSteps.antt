@@ -21,4 +21,5 @@ raised Y s i = raised_by (eqb (suc (get_or s.exponents i 0)) Y.base.prime) Y s i
 -- the letter j, which generator i has passed, and the right side of their commutator
 abbrev pub passed : RowedPresentation → ℕ → State → ℕ → State
 passed Y i s j =
-    push_configuration Y (plain_push Y) (plain_push Y s j) (record { word = spelled (suc j) (commutator_side Y.base j i); row = commutator_row Y j i })
+    push_configuration Y (plain_push Y) (plain_push Y s j)
+    (record { word = spelled (suc j) (commutator_side Y.base j i); row = commutator_row Y j i })

@@ -37,4 +37,5 @@ no_place = record { start = 0; end = 0; tail = None }
 
 -- each place is within a list of this many syllables
 abbrev pub AreWithin : ℕ → List Place → Type 0
-AreWithin n places = (k : ℕ) → k < length places → ((get_or places k no_place).start ≤ (get_or places k no_place).end) × ((get_or places k no_place).end ≤ n)
+AreWithin n places =
+    (k : ℕ) → k < length places → ((get_or places k no_place).start ≤ (get_or places k no_place).end) × ((get_or places k no_place).end ≤ n)

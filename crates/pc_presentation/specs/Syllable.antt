@@ -1,6 +1,7 @@
 -- Sparse words: lists of syllables with rising generators, which stand for lists of exponents.
 -- Generators count from 1 in syllables, and places from 0: generator k + 1 is at place k.
-use Rattle.std.specs.Prelude.{◌≡◌, ◌<◌, ◌≤◌, ◌+◌, length, ℕ, zero, suc, ℤ, pos, eqb, cond, List, [], ◌∷◌, ◌++◌, All, Bool, true, nat_lt, ◌&&◌, IsTrue}
+use Rattle.std.specs.Prelude.{◌≡◌, ◌<◌, ◌≤◌, ◌+◌, length, ℕ, zero, suc, ℤ, pos, eqb, cond, List, [], ◌∷◌, ◌++◌, All, Bool, true, nat_lt}
+use Rattle.std.specs.Prelude.{◌&&◌, IsTrue}
 use Rattle.pq_base.specs.SignedWord.{copies}
 use Rattle.pq_base.specs.Table.{AllBelow}
 use Rattle.pq_base.specs.Presentation.{IsNormal, word_from}

@@ -1,6 +1,12 @@
 //! Laws of collection: each function does nothing, and its clause is a theorem.
 
-ghost use Rattle.pc_presentation.specs.CollectionLaws.{PlainPushesAreRuns, RowsRideAlong, EarlierExponentsAreFinal, DirectedRunsAreJoined, PlainPushesAreJoined, WordsReachNormalWords, AgreeingOverlapsMakeConsistent, AgreeingOverlapsMakeConsistentWithoutRows, PlainAgreementIsAgreement, ConsistentPresentationsHaveTables, PlainRuleIsAMeaning, CollectorsHaveArithmetic, ConsistentPushesAreUnique, ConsistentOverlapsAgree, PushesOverConsistentBase, OverlapsOverConsistentBase, RowMapsCarryPushes, RowMapsCarryRuns, TablesHaveTheClass};
+ghost use Rattle.pc_presentation.specs.CollectionLaws.{PlainPushesAreRuns, RowsRideAlong, EarlierExponentsAreFinal, DirectedRunsAreJoined};
+ghost use Rattle.pc_presentation.specs.CollectionLaws.{PlainPushesAreJoined, WordsReachNormalWords, AgreeingOverlapsMakeConsistent};
+ghost use Rattle.pc_presentation.specs.CollectionLaws.{AgreeingOverlapsMakeConsistentWithoutRows, PlainAgreementIsAgreement};
+ghost use Rattle.pc_presentation.specs.CollectionLaws.{ConsistentPresentationsHaveTables, PlainRuleIsAMeaning, CollectorsHaveArithmetic};
+ghost use Rattle.pc_presentation.specs.CollectionLaws.{ConsistentPushesAreUnique, ConsistentOverlapsAgree, PushesOverConsistentBase};
+ghost use Rattle.pc_presentation.specs.CollectionLaws.{OverlapsOverConsistentBase, RowMapsCarryPushes, RowMapsCarryRuns};
+ghost use Rattle.pc_presentation.specs.CollectionLaws.{TablesHaveTheClass};
 
 /// A push of the plain rule is a directed run from the word with the letter behind it to a state.
 pub fn plain_pushes_are_runs()

@@ -131,7 +131,8 @@ fn collect<C: Collect>(collector: &mut C, pcp: &Pcp, at: &mut Elem, word: &[Syll
     ensures serves { C.serves collector.new pcp.now.presentation.rank }
     ensures element { IsElement pcp.now at.new }
     ensures collected { let Y = rowed_presentation pcp.now in
-        at.new ≡ with_state at.old (push_configuration Y (C.meaning Y) (identity Y Y.base.rank) (sparse_configuration pcp.now.tails word.now None)) }
+        at.new ≡ with_state at.old
+        (push_configuration Y (C.meaning Y) (identity Y Y.base.rank) (sparse_configuration pcp.now.tails word.now None)) }
 {
     at.clear();
     collector.push_word(pcp, at, word, None);

@@ -119,7 +119,8 @@ fn is_defined(pcp: &Pcp, images: &[Vec<Syllable>], generator: u16, definition: D
 
 /// Whether image i, counted from 1, is this generator alone.
 fn is_image(images: &[Vec<Syllable>], i: u16, generator: u16) -> bool
-    ensures { IsTrue result ↔ ((1 ≤ i) × (i ≤ length (words_of images.now)) × IsGenerator generator (get_or (words_of images.now) (i - 1) [])) }
+    ensures { IsTrue result
+        ↔ ((1 ≤ i) × (i ≤ length (words_of images.now)) × IsGenerator generator (get_or (words_of images.now) (i - 1) [])) }
 {
     1 <= i && i as usize <= images.len() && is_generator(&images[i as usize - 1], generator)
 }

@@ -31,7 +31,8 @@ pub(crate) fn push_times<C: Collect>(
     requires in_range { generator ≤ pcp.now.presentation.rank }
     ensures serves { C.serves collector.new pcp.now.presentation.rank }
     ensures element { IsElement pcp.now at.new }
-    ensures pushed { at.new ≡ with_state at.old (push_word (C.meaning (rowed_presentation pcp.now)) at.old.state (replicate times (generator - 1))) }
+    ensures pushed { at.new
+        ≡ with_state at.old (push_word (C.meaning (rowed_presentation pcp.now)) at.old.state (replicate times (generator - 1))) }
 {
     if times > 0 {
         let power = Syllable {

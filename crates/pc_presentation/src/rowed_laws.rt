@@ -1,7 +1,8 @@
 //! Laws of presentations with rows: each function does nothing, and its clause is a theorem. None asks that the presentation be
 //! consistent.
 
-ghost use Rattle.pc_presentation.specs.RowedLaws.{RowsAreCentral, ProjectionsCarryJoinedWords, StatesProject, ProjectionsLift, ClassesGrowByOneWithRows};
+ghost use Rattle.pc_presentation.specs.RowedLaws.{RowsAreCentral, ProjectionsCarryJoinedWords, StatesProject, ProjectionsLift};
+ghost use Rattle.pc_presentation.specs.RowedLaws.{ClassesGrowByOneWithRows};
 
 /// In the flat reading the word of a row commutes with every word over the generators and the tails. Sums and multiples of
 /// rows are products and powers of their words, and the inverse is the word of the negative row.

@@ -1,7 +1,8 @@
 //! Syllables: the words of a presentation are lists of them.
 
 ghost use Rattle.std.specs.Prelude.{◌≡◌, ◌↔◌, IsTrue};
-ghost use Rattle.pc_presentation.specs.Syllable.{AreGenerators, AreLater, is_normal_from, AreSyllables, IsGenerator, SparseWordsAreExponents};
+ghost use Rattle.pc_presentation.specs.Syllable.{AreGenerators, AreLater, is_normal_from, AreSyllables, IsGenerator};
+ghost use Rattle.pc_presentation.specs.Syllable.{SparseWordsAreExponents};
 
 /// A generator, counted from 1, to an exponent.
 #[derive(Clone, Copy, Debug, PartialEq, Eq)]

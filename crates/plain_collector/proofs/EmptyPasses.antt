@@ -31,7 +31,8 @@ module _ (Y : RowedPresentation) (j i : ℕ) (c : Configuration)
       (push_word-add_row Y.base.prime (plain_push Y) (plain-rides Y Y.base.rank 0) c.row (plain_push Y s j) (replicate n j))
 
 -- of an element
-pub passed-together : (T : TailedPresentation) → IsTailedPresentation T → (e m e' : Element) (j i n : ℕ) → 1 ≤ i → i < j → j ≤ T.presentation.rank
+pub passed-together : (T : TailedPresentation) → IsTailedPresentation T → (e m e' : Element) (j i n : ℕ) → 1 ≤ i → i < j
+    → j ≤ T.presentation.rank
     → right_side T.presentation (Commutator j i) ≡ replicate (T.presentation.rank - j) 0
     → m ≡ after (plain_push (rowed_presentation T)) e (replicate n (j - 1))
     → e' ≡ with_state m (add_row_times T.presentation.prime (row_of T.tails (tail_of T (Commutator j i))) n m.state)
@@ -41,5 +42,6 @@ passed-together T is e m e' j i n one less last zeros p q =
     q
     ∙ ap (λ (z : Element). with_state z (add_row_times T.presentation.prime row n z.state)) p
     ∙ ap (with_state e)
-    (sym (copies-passed (rowed_presentation T) (j - 1) (i - 1) (side_with_tail T (Commutator j i)) (sym (commutator_side-numbered T is j i one less last))
+    (sym (copies-passed (rowed_presentation T) (j - 1) (i - 1) (side_with_tail T (Commutator j i))
+    (sym (commutator_side-numbered T is j i one less last))
     (ap (spelled j) zeros ∙ spelled-zeros j (T.presentation.rank - j)) n e.state))

@@ -23,7 +23,8 @@ side-pushed T e m e' c p q = q ∙ ap (λ (z : Element). with_state z (add_row T
 -- a letter that has passed, and its right side
 pub pass-step : (T : TailedPresentation) → IsTailedPresentation T → (e m e' : Element) (j i : ℕ) → 1 ≤ i → i < j → j ≤ T.presentation.rank
     → m ≡ with_state e (plain_push (rowed_presentation T) e.state (j - 1))
-    → e' ≡ with_state m (push_configuration (rowed_presentation T) (plain_push (rowed_presentation T)) m.state (side_with_tail T (Commutator j i)))
+    → e' ≡ with_state m (push_configuration (rowed_presentation T) (plain_push (rowed_presentation T)) m.state
+    (side_with_tail T (Commutator j i)))
     → e' ≡ with_state e (passed (rowed_presentation T) (i - 1) e.state (j - 1))
 pass-step T is e m e' j i one less last p q =
     let Y : RowedPresentation = rowed_presentation T in

@@ -3,7 +3,8 @@ use Rattle.std.proofs.Common.{◌≡◌, ◌+◌, ◌-◌, ◌≤◌, nat_lt, �
 use Rattle.std.proofs.lemmas.List.{take_min}
 use Rattle.std.proofs.lemmas.Bool.Decides.{nat_tests}
 
-pub kept_of : (kept piece : List ℕ) (room : ℕ) → length kept ≤ room → kept ++ take (min (length piece) (room - length kept)) piece ≡ take room (kept ++ piece)
+pub kept_of : (kept piece : List ℕ) (room : ℕ) → length kept ≤ room
+    → kept ++ take (min (length piece) (room - length kept)) piece ≡ take room (kept ++ piece)
 kept_of [] piece room fits =
     let same : min (length piece) (room - 0) ≡ min room (length piece) = omega arith in
     ap (λ (n : ℕ). take n piece) same ∙ take_min room piece

@@ -3,11 +3,15 @@ use Rattle.std.proofs.Common.{◌≡◌, ◌≤◌, ℕ, List, [], ◌++◌, len
 use Rattle.std.proofs.lemmas.List.{drop_at}
 use Rattle.std.specs.Io.KnownBytes.{Consumes}
 
-pub Consumes-drop : (a b : Option (List ℕ)) (bytes : List ℕ) (n : ℕ) → Consumes a b bytes → length bytes ≤ n → IfSome a (λ told. (k : ℕ) × (k ≤ n) × (b ≡ Some (drop k told)))
+pub Consumes-drop : (a b : Option (List ℕ)) (bytes : List ℕ) (n : ℕ) → Consumes a b bytes → length bytes ≤ n
+    → IfSome a (λ told. (k : ℕ) × (k ≤ n) × (b ≡ Some (drop k told)))
 Consumes-drop None b bytes n read few = tt
 Consumes-drop (Some told) None bytes n read few = absurd read
-Consumes-drop (Some told) (Some rest) bytes n read few =
-    (length bytes, few, ap (λ (l : List ℕ). Some l) (sym (ap (λ (l : List ℕ). drop (length bytes) l) read ∙ drop_at bytes rest (length bytes) refl)))
+Consumes-drop (Some told) (Some rest) bytes n read few = (
+  length bytes,
+  few,
+  ap (λ (l : List ℕ). Some l) (sym (ap (λ (l : List ℕ). drop (length bytes) l) read ∙ drop_at bytes rest (length bytes) refl)),
+)
 
 -- a read of nothing changes nothing
 pub Consumes-still : (a b c : Option (List ℕ)) (bytes : List ℕ) → Consumes a b bytes → Consumes b c [] → Consumes a c bytes

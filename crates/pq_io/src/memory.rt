@@ -1,6 +1,7 @@
 //! A source and a sink over memory, which handle their bytes in small steps and fail at chosen calls.
 
-ghost use Rattle.std.specs.Prelude.{◌≡◌, ◌<◌, ◌↔◌, ◌⊎◌, ◌-◌, ◌^◌, ◌≤◌, [], ◌++◌, length, take, drop, min, Some, IsTrue, IsErr, IfOk, OnErr, Contains};
+ghost use Rattle.std.specs.Prelude.{◌≡◌, ◌<◌, ◌↔◌, ◌⊎◌, ◌-◌, ◌^◌, ◌≤◌, [], ◌++◌, length, take, drop, min, Some, IsTrue, IsErr, IfOk, OnErr};
+ghost use Rattle.std.specs.Prelude.{Contains};
 ghost use Rattle.pq_io.specs.Faults.{one_more};
 ghost use Rattle.pq_io.specs.Memory.{SourceInMemory, SinkInMemory, after_read, after_failed_read, after_write, after_failed_write};
 

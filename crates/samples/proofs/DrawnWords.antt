@@ -61,13 +61,15 @@ pub drawn_words_are_drawn : (s : ℕ) → AreDrawn (drawn_words 30 s)
 drawn_words_are_drawn s = record { each = All-drawn_words 30 s; count = length-drawn_words 30 s }
 
 -- one letter more
-pub word_more : (done whole : List ℤ) (k s t : ℕ) (x : ℤ) → t ≡ next_number s → x ≡ letter_of_number t → done ++ drawn_word (suc k) s ≡ whole
+pub word_more : (done whole : List ℤ) (k s t : ℕ) (x : ℤ) → t ≡ next_number s → x ≡ letter_of_number t
+    → done ++ drawn_word (suc k) s ≡ whole
     → (done ++ x ∷ []) ++ drawn_word k t ≡ whole
 word_more done whole k s t x number letter so_far =
     rw (append_assoc, letter, number, ← drawn_word-suc k s) so_far
 
 -- one word more
-pub words_more : (done whole : List (List ℤ)) (k s t : ℕ) (w : List ℤ) → t ≡ number_after 200 s → w ≡ drawn_word 200 s → done ++ drawn_words (suc k) s ≡ whole
+pub words_more : (done whole : List (List ℤ)) (k s t : ℕ) (w : List ℤ) → t ≡ number_after 200 s → w ≡ drawn_word 200 s
+    → done ++ drawn_words (suc k) s ≡ whole
     → (done ++ w ∷ []) ++ drawn_words k t ≡ whole
 words_more done whole k s t w number word so_far =
     rw (append_assoc, number, word, ← drawn_words-suc k s) so_far

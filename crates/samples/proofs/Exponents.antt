@@ -20,7 +20,8 @@ length-normal p n zero (e ∷ es) normal = let here = normal.0.count in omega ar
 length-normal p n (suc i) (e ∷ es) normal = length-normal p n i es normal.1
 
 -- so an image has at most as many syllables as there are generators
-pub length-image : (A : Answer) (i : ℕ) (word : List Syllable) → IsAnswer A → A.presentation.rank ≤ 100 → word ≡ syllables_of 0 (get_or A.images i [])
+pub length-image : (A : Answer) (i : ℕ) (word : List Syllable) → IsAnswer A → A.presentation.rank ≤ 100
+    → word ≡ syllables_of 0 (get_or A.images i [])
     → length word ≤ 100
 length-image A i word is few same =
     let short = length-syllables_of 0 (get_or A.images i []) in

@@ -12,7 +12,8 @@ use Rattle.samples.specs.Samples.{relators_from, exchanged, exchange}
 use Rattle.samples.specs.Pieces.{IsDrawn}
 
 -- relators
-pub AreWords-relators_from : (n i : ℕ) (ws : List (List ℤ)) → All IsDrawn ws → 2 ≤ n → 1 ≤ i → i + length ws ≤ suc n → AreWords n (relators_from i ws)
+pub AreWords-relators_from : (n i : ℕ) (ws : List (List ℤ)) → All IsDrawn ws → 2 ≤ n → 1 ≤ i → i + length ws ≤ suc n
+    → AreWords n (relators_from i ws)
 AreWords-relators_from n i [] drawn two one room = tt
 AreWords-relators_from n zero (w ∷ ws) drawn two one room = absurd (omega arith)
 AreWords-relators_from n (suc i) (w ∷ ws) drawn two one room =

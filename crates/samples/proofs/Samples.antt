@@ -13,7 +13,8 @@ use Rattle.samples.specs.Pieces.{AreDrawn}
 use Rattle.samples.specs.SampleLaws.{SamplesArePresentations, SamplePrimesAreOffered}
 use Rattle.samples.proofs.DrawnWords.{drawn_words_are_drawn}
 use Rattle.samples.proofs.SampleNames.{length-sample_names, sample_names_are_distinct, All-sample_names}
-use Rattle.samples.proofs.Parts.{AreWords-relators_from, length-relators_from, AreShort-relators_from, letters_in-relators_from, AreWords-exchange, length-exchange, AreShort-exchange, letters_in-exchange}
+use Rattle.samples.proofs.Parts.{AreWords-relators_from, length-relators_from, AreShort-relators_from, letters_in-relators_from}
+use Rattle.samples.proofs.Parts.{AreWords-exchange, length-exchange, AreShort-exchange, letters_in-exchange}
 
 module _ (ws : List (List ℤ)) (drawn : AreDrawn ws) where
   relators : AreWords (length sample_names) (relators_from 3 ws)
@@ -29,7 +30,8 @@ module _ (ws : List (List ℤ)) (drawn : AreDrawn ws) where
 
   is_presentation : (b : ℕ) → IsLPresentation (presentation_of b ws)
   is_presentation zero = record { distinct = sample_names_are_distinct; fixed_words = relators; iterated_words = tt; endo_words = tt }
-  is_presentation (suc k) = record { distinct = sample_names_are_distinct; fixed_words = tt; iterated_words = relators; endo_words = images }
+  is_presentation (suc k) =
+      record { distinct = sample_names_are_distinct; fixed_words = tt; iterated_words = relators; endo_words = images }
 
   few_relators : length (relators_from 3 ws) ≤ 4096
   few_relators = omega (arith, length-relators_from 3 ws, drawn.count)
@@ -109,7 +111,8 @@ module _ (n : ℕ) (names : List (List ℕ)) (ws fixed iterated : List (List ℤ
   unfolding sample_presentation
   made_fixed even is_names drawn is_fixed is_iterated is_endos = rw (even, is_names, is_fixed, is_iterated, is_endos, drawn) refl
 
-  pub made_iterated : (images : Vec (List ℤ)) → (n / 4) % 2 ≡ 1 → names ≡ sample_names → ws ≡ drawn_words 30 n → fixed ≡ [] → iterated ≡ relators_from 3 ws
+  pub made_iterated : (images : Vec (List ℤ)) → (n / 4) % 2 ≡ 1 → names ≡ sample_names → ws ≡ drawn_words 30 n → fixed ≡ []
+      → iterated ≡ relators_from 3 ws
       → endos ≡ images ∷ [] → images.items ≡ exchange ws → made_of names fixed iterated endos ≡ sample_presentation n
   unfolding sample_presentation
   made_iterated images odd is_names drawn is_fixed is_iterated is_endos is_images =

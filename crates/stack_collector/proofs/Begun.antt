@@ -30,7 +30,8 @@ raised-past T e m e' g h one last past p q =
     ap (pushed T e') (places_of-syllables_of g (right_side T.presentation (Power g)))
     ∙ ap (λ (z : Element). pushed T z side.word) (q ∙ ap (λ (z : Element). with_state z (add_row T.presentation.prime side.row z.state)) p)
     ∙ ap (with_state e) (push_word-add_row T.presentation.prime (plain_push Y) (plain-rides Y Y.base.rank 0) side.row zeroed side.word)
-    ∙ ap (λ (c : Configuration). with_state e (push_configuration Y (plain_push Y) zeroed c)) (power_side-numbered T h.presentation g one last)
+    ∙ ap (λ (c : Configuration). with_state e (push_configuration Y (plain_push Y) zeroed c))
+    (power_side-numbered T h.presentation g one last)
     ∙ ap (λ (b : Bool). with_state e (raised_by b Y e.state (g - 1)))
     (sym (eq-eqb (suc (get_or e.state.exponents (g - 1) 0)) T.presentation.prime past))
 
@@ -49,7 +50,8 @@ begun_frame g z place syllables later = record {
   end = z;
 }
 
-module _ (T : TailedPresentation) (e : Element) (h : IsElement T e) (g z place syllables : ℕ) (later : List ℕ) (one : 1 ≤ g) (last : g ≤ T.presentation.rank)
+module _ (T : TailedPresentation) (e : Element) (h : IsElement T e) (g z place syllables : ℕ) (later : List ℕ) (one : 1 ≤ g)
+    (last : g ≤ T.presentation.rank)
     (first : IsFirstCommuting (rowed_presentation T) (g - 1) z) where
   pub begun-pushes : (c r : Element) → AreBetween g z e.state.exponents later
       → c ≡ with_state e (record { exponents = cleared_between (g - 1) z e.state.exponents; row = e.state.row })

@@ -1,6 +1,7 @@
 -- What a frame owes stays the same while it takes a syllable of its word, or an exponent that was set aside, and a letter that it
 -- pushes is done. Its effort falls each time, and is below a billion.
-use Rattle.std.proofs.Common.{◌≡◌, ℕ, zero, suc, ◌+◌, ◌-◌, ◌<◌, ◌≤◌, List, [], ◌∷◌, ◌++◌, get_or, length, replicate, take, drop, refl, ap, sym, ◌∙◌, arith}
+use Rattle.std.proofs.Common.{◌≡◌, ℕ, zero, suc, ◌+◌, ◌-◌, ◌<◌, ◌≤◌, List, [], ◌∷◌, ◌++◌, get_or, length, replicate, take, drop, refl, ap}
+use Rattle.std.proofs.Common.{sym, ◌∙◌, arith}
 use Rattle.std.proofs.lemmas.List.{drop_more, length-take-le, get_or-take, replicate-append-replicate}
 use Rattle.pq_base.specs.Table.{AllBelow}
 use Rattle.pc_presentation.specs.declared.syllable.Syllable.{Syllable}
@@ -33,13 +34,15 @@ length-side_word T is r h =
     omega arith
 
 -- exponents of a right side are positive, and below the prime
-pub exponent-some : (k : ℕ) (e : List ℕ) (m : ℕ) (d : Syllable) → m < length (syllables_of k e) → 1 ≤ (get_or (syllables_of k e) m d).exponent
+pub exponent-some : (k : ℕ) (e : List ℕ) (m : ℕ) (d : Syllable) → m < length (syllables_of k e)
+    → 1 ≤ (get_or (syllables_of k e) m d).exponent
 exponent-some k [] m d l = absurd (omega arith)
 exponent-some k (zero ∷ es) m d l = exponent-some (suc k) es m d l
 exponent-some k (suc x ∷ es) zero d l = omega arith
 exponent-some k (suc x ∷ es) (suc m) d l = exponent-some (suc k) es m d (omega arith)
 
-exponent-below : (p k : ℕ) (e : List ℕ) (m : ℕ) (d : Syllable) → AllBelow p e → m < length (syllables_of k e) → (get_or (syllables_of k e) m d).exponent < p
+exponent-below : (p k : ℕ) (e : List ℕ) (m : ℕ) (d : Syllable) → AllBelow p e → m < length (syllables_of k e)
+    → (get_or (syllables_of k e) m d).exponent < p
 exponent-below p k [] m d h l = absurd (omega arith)
 exponent-below p k (zero ∷ es) m d h l = exponent-below p (suc k) es m d h.1 l
 exponent-below p k (suc x ∷ es) zero d h l = h.0
@@ -51,7 +54,8 @@ side-below T is (Power i) h = (is.presentation.power_sides (i - 1) (omega arith)
 side-below T is (Commutator j i) h = (is.presentation.commutator_sides (j - 1) (i - 1) (omega arith) (omega arith)).below
 
 -- letters pushed behind others
-pushed-behind : (T : TailedPresentation) (e e' : Element) (u u' w : List ℕ) → pushed T e' u' ≡ pushed T e u → pushed T e' (u' ++ w) ≡ pushed T e (u ++ w)
+pushed-behind : (T : TailedPresentation) (e e' : Element) (u u' w : List ℕ) → pushed T e' u' ≡ pushed T e u
+    → pushed T e' (u' ++ w) ≡ pushed T e (u ++ w)
 pushed-behind T e e' u u' w q =
     let P : State → ℕ → State = plain_push (rowed_presentation T) in
     ap (with_state e') (push_word-append (plain_push (rowed_presentation T)) e'.state u' w)

@@ -1,6 +1,7 @@
 -- Letters that a frame passes: where a letter has an empty word with the frame's generator, its copies are pushed together behind
 -- as many tails; else one copy is pushed behind one tail, and before the word.
-use Rattle.std.proofs.Common.{◌≡◌, ◌⊎◌, inl, inr, ℕ, zero, suc, ◌+◌, ◌-◌, ◌≤◌, List, [], ◌∷◌, ◌++◌, length, replicate, take, drop, refl, ap, sym, ◌∙◌, arith}
+use Rattle.std.proofs.Common.{◌≡◌, ◌⊎◌, inl, inr, ℕ, zero, suc, ◌+◌, ◌-◌, ◌≤◌, List, [], ◌∷◌, ◌++◌, length, replicate, take, drop, refl, ap}
+use Rattle.std.proofs.Common.{sym, ◌∙◌, arith}
 use Rattle.std.proofs.Math.ListN.{drop_of_length-le}
 use Rattle.std.proofs.lemmas.List.{append-nil, append_assoc, replicate-append-replicate}
 use Rattle.pq_base.specs.Presentation.{commutator_side}
@@ -29,7 +30,8 @@ module _ (Y : RowedPresentation) (j i : ℕ) (c : Configuration)
       ap (push_configuration Y (plain_push Y) (plain_push Y s j)) side
       ∙ sym (push_word-add_row Y.base.prime (plain_push Y) (plain-rides Y Y.base.rank 0) c.row s (j ∷ c.word))
 
-  rows-ride : (n : ℕ) (s : State) → plain_push Y (add_row_times Y.base.prime c.row n s) j ≡ add_row_times Y.base.prime c.row n (plain_push Y s j)
+  rows-ride : (n : ℕ) (s : State)
+      → plain_push Y (add_row_times Y.base.prime c.row n s) j ≡ add_row_times Y.base.prime c.row n (plain_push Y s j)
   rows-ride zero s = refl
   rows-ride (suc n) s =
       rows-ride n (add_row Y.base.prime c.row s) ∙ ap (add_row_times Y.base.prime c.row n) (plain-rides Y Y.base.rank 0 c.row s j)
@@ -59,7 +61,8 @@ module _ (Y : RowedPresentation) (j i : ℕ) (c : Configuration)
       (sym (append-nil (replicate n j)) ∙ ap (λ (w : List ℕ). replicate n j ++ w) (sym empty))
 
 -- the relation of the next letter and the frame's generator
-pub relation-passed : (T : TailedPresentation) (f : Frame) → IsFrame T f → 1 ≤ f.times → IsRelation T.presentation.rank (Commutator f.next f.generator)
+pub relation-passed : (T : TailedPresentation) (f : Frame) → IsFrame T f → 1 ≤ f.times
+    → IsRelation T.presentation.rank (Commutator f.next f.generator)
 relation-passed T f h some =
     let order = h.times some in
     let before_end = h.before_end in
@@ -80,7 +83,8 @@ with_passed f n syllables = record f {
 module _ (T : TailedPresentation) (f : Frame) (h : IsFrame T f) (e e' : Element) (element : IsElement T e') (n syllables : ℕ)
     (some : 1 ≤ n) (few : n ≤ f.times) (ended : f.copies ≡ 0) (word_ended : f.syllables ≤ f.place)
     (whole : syllables ≡ length (side_word T.presentation (Commutator f.next f.generator))) (one_or_empty : (n ≡ 1) ⊎ (syllables ≡ 0))
-    (added : e' ≡ with_state e (add_row_times T.presentation.prime (row_of T.tails (tail_of T (Commutator f.next f.generator))) n e.state)) where
+    (added : e' ≡ with_state e
+    (add_row_times T.presentation.prime (row_of T.tails (tail_of T (Commutator f.next f.generator))) n e.state)) where
   side-one_or_empty : (n ≡ 1) ⊎ ((side_with_tail T (Commutator f.next f.generator)).word ≡ [])
   side-one_or_empty = elim one_or_empty [
     | inl one ↦ inl one
@@ -139,7 +143,8 @@ module _ (T : TailedPresentation) (f : Frame) (h : IsFrame T f) (e e' : Element)
         same =
             ap (passing T f.generator (letters_to_pass (with_passed f n syllables))) (sym begun)
             ∙ ap (with_state e)
-            (sym (push_word-append (passed Y (f.generator - 1)) e.state (replicate n (f.next - 1)) (letters_to_pass (with_passed f n syllables))))
+            (sym (push_word-append (passed Y (f.generator - 1)) e.state (replicate n (f.next - 1))
+            (letters_to_pass (with_passed f n syllables))))
             ∙ ap (λ (v : List ℕ). passing T f.generator v e) (sym letters-split)
             ∙ ap (λ (u : List ℕ). passing T f.generator (letters_to_pass f) (pushed T e u)) (sym nothing);
         less = omega arith;

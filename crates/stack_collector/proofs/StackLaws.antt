@@ -1,6 +1,7 @@
 -- Stacks of frames while the collector works: with each step they lead to the same end, and the work that is left falls, also
 -- where a frame is put on the stack or taken from it.
-use Rattle.std.proofs.Common.{◌≡◌, ℕ, zero, suc, ◌+◌, ◌-◌, ◌*◌, ◌<◌, ◌≤◌, List, [], ◌∷◌, ◌++◌, length, take, get_or, inl, inr, refl, ap, sym, ◌∙◌, subst, arith}
+use Rattle.std.proofs.Common.{◌≡◌, ℕ, zero, suc, ◌+◌, ◌-◌, ◌*◌, ◌<◌, ◌≤◌, List, [], ◌∷◌, ◌++◌, length, take, get_or, inl, inr, refl, ap}
+use Rattle.std.proofs.Common.{sym, ◌∙◌, subst, arith}
 use Rattle.std.proofs.Math.Nat.{suc-mul, eq-or-lt_of_le}
 use Rattle.std.proofs.Math.ListN.{set}
 use Rattle.std.proofs.lemmas.Nat.{mul-le}
@@ -21,7 +22,8 @@ sum-assoc : (a b c : ℕ) → a + (b + c) ≡ a + b + c
 sum-assoc a b c = omega arith
 
 module _ (T : TailedPresentation) where
-  rising-snoc : (a g : ℕ) (fs : List Frame) (f : Frame) → AreRising T a fs f.generator → IsFrame T f → f.generator < g → AreRising T a (fs ++ f ∷ []) g
+  rising-snoc : (a g : ℕ) (fs : List Frame) (f : Frame) → AreRising T a fs f.generator → IsFrame T f → f.generator < g
+      → AreRising T a (fs ++ f ∷ []) g
   rising-snoc a g [] f low h less = (h, low, less)
   rising-snoc a g (b ∷ fs) f r h less = (r.0, r.1, rising-snoc (suc b.generator) g fs f r.2 h less)
 
@@ -121,7 +123,8 @@ take-set zero fs f = refl
 take-set (suc n) [] f = refl
 take-set (suc n) (b ∷ fs) f = ap (λ (r : List Frame). b ∷ r) (take-set n fs f)
 
-pub frames-split : (w v : Frames) (n : ℕ) (f : Frame) → v ≡ w → suc n ≡ length v.frames → f ≡ get_or v.frames n f → w.frames ≡ take n v.frames ++ f ∷ []
+pub frames-split : (w v : Frames) (n : ℕ) (f : Frame) → v ≡ w → suc n ≡ length v.frames → f ≡ get_or v.frames n f
+    → w.frames ≡ take n v.frames ++ f ∷ []
 frames-split w v n f same count here =
     ap (λ (x : Frames). x.frames) (sym same) ∙ split-last n v.frames f count ∙ ap (λ (x : Frame). take n v.frames ++ x ∷ []) (sym here)
 
@@ -129,9 +132,11 @@ pub room-kept : (w v : Frames) → v ≡ w → w.room ≤ v.room
 room-kept w v same = let room : w.room ≡ v.room = ap (λ (x : Frames). x.room) (sym same) in omega arith
 
 -- the last frame f works, those below are the list fs
-module _ (T : TailedPresentation) (w : Frames) (e : Element) (run : IsRunning T w e) (fs : List Frame) (f : Frame) (whole : w.frames ≡ fs ++ f ∷ []) where
+module _ (T : TailedPresentation) (w : Frames) (e : Element) (run : IsRunning T w e) (fs : List Frame) (f : Frame)
+    (whole : w.frames ≡ fs ++ f ∷ []) where
   below : AreRising T 0 fs f.generator × IsFrame T f
-  below = last-rising T 0 (suc T.presentation.rank) fs f (subst (λ (l : List Frame). AreRising T 0 l (suc T.presentation.rank)) whole run.rising)
+  below = last-rising T 0 (suc T.presentation.rank) fs f
+      (subst (λ (l : List Frame). AreRising T 0 l (suc T.presentation.rank)) whole run.rising)
 
   pub last-frame : IsFrame T f
   last-frame = below.1
@@ -143,7 +148,8 @@ module _ (T : TailedPresentation) (w : Frames) (e : Element) (run : IsRunning T 
   work_before = ap (work T) whole ∙ work-snoc T fs f
 
   -- the frame goes on
-  pub continues-within : (f' : Frame) (e' : Element) (w' : Frames) → IsWithin T f e f' e' → w'.frames ≡ fs ++ f' ∷ [] → w.room ≤ w'.room → Continues T w e w' e'
+  pub continues-within : (f' : Frame) (e' : Element) (w' : Frames) → IsWithin T f e f' e' → w'.frames ≡ fs ++ f' ∷ [] → w.room ≤ w'.room
+      → Continues T w e w' e'
   continues-within f' e' w' h put wide =
       let room = run.room in
       let in_range = h.frame.in_range in
@@ -164,11 +170,13 @@ module _ (T : TailedPresentation) (w : Frames) (e : Element) (run : IsRunning T 
             subst (λ (x : ℕ). work T w'.frames < x) (sym work_before)
             (subst (λ (x : ℕ). x < work T fs + work_of T f) (sym (ap (work T) put ∙ work-snoc T fs f'))
             (subst (λ (g : ℕ). work T fs + effort T f' * scale (101 - g) < work T fs + work_of T f) (sym h.generator)
-            (add-falls (work T fs) (effort T f' * scale (101 - f.generator)) (work_of T f) (own-falls (effort T f) (effort T f') f.generator h.less))));
+            (add-falls (work T fs) (effort T f' * scale (101 - f.generator)) (work_of T f)
+            (own-falls (effort T f) (effort T f') f.generator h.less))));
       }
 
   -- there is room for the frame
-  pub room-left : (k : ℕ) (f' : Frame) (e' : Element) (w' : Frames) → IsPush T f e k f' e' → w'.frames ≡ fs ++ f' ∷ [] → w.room ≤ w'.room → length w'.frames < w'.room
+  pub room-left : (k : ℕ) (f' : Frame) (e' : Element) (w' : Frames) → IsPush T f e k f' e' → w'.frames ≡ fs ++ f' ∷ [] → w.room ≤ w'.room
+      → length w'.frames < w'.room
   room-left k f' e' w' h put wide =
       let count = rising-count T 0 f.generator fs below.0 in
       let one_more : length w'.frames ≡ length fs + 1 = ap (λ (l : List Frame). length l) put ∙ length-append fs (f' ∷ []) in
@@ -195,7 +203,8 @@ module _ (T : TailedPresentation) (w : Frames) (e : Element) (run : IsRunning T 
           rising =
               subst (λ (l : List Frame). AreRising T 0 l (suc T.presentation.rank)) (sym all)
               (rising-snoc T 0 (suc T.presentation.rank) (fs ++ f' ∷ []) new
-              (rising-snoc T 0 new.generator fs f' (subst (AreRising T 0 fs) (sym h.generator) below.0) h.frame (omega arith)) frame (omega arith));
+              (rising-snoc T 0 new.generator fs f' (subst (AreRising T 0 fs) (sym h.generator) below.0) h.frame (omega arith)) frame
+              (omega arith));
           room = omega arith;
         };
         same =
@@ -211,7 +220,8 @@ module _ (T : TailedPresentation) (w : Frames) (e : Element) (run : IsRunning T 
             (sym (ap (work T) all ∙ work-snoc T (fs ++ f' ∷ []) new ∙ ap (λ (x : ℕ). x + work_of T new) (work-snoc T fs f')))
             (add-two-falls (work T fs) (work_of T f') (work_of T new) (work_of T f)
             (subst (λ (g : ℕ). effort T f' * scale (101 - g) + work_of T new < work_of T f) (sym h.generator)
-            (next-falls (effort T f) (effort T f') (effort T new) f.generator new.generator h.less (effort-bounded T element.presentation new frame)
+            (next-falls (effort T f) (effort T f') (effort T new) f.generator new.generator h.less
+            (effort-bounded T element.presentation new frame)
             (omega arith) (omega arith)))));
       }
 

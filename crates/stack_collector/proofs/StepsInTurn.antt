@@ -56,5 +56,6 @@ module _ (T : TailedPresentation) (f f1 : Frame) (e e1 : Element) where
   pub within-step : (r : Progress) (f2 : Frame) (e2 : Element) → IsWithin T f e f1 e1 → IsStep T f1 e1 r f2 e2 → IsStep T f e r f2 e2
   within-step r f2 e2 w s = leads-step r f2 e2 (within-leads w) s
 
-pub going-step : (T : TailedPresentation) (f f1 f2 : Frame) (e e2 : Element) (r : Progress) → IsElement T e → GoesOn T f f1 → IsStep T f1 e r f2 e2 → IsStep T f e r f2 e2
+pub going-step : (T : TailedPresentation) (f f1 f2 : Frame) (e e2 : Element) (r : Progress) → IsElement T e → GoesOn T f f1
+    → IsStep T f1 e r f2 e2 → IsStep T f e r f2 e2
 going-step T f f1 f2 e e2 r element g s = within-step T f f1 e e r f2 e2 (within-alone T f f1 e element g) s

@@ -8,7 +8,8 @@ use Rattle.stack_collector.specs.declared.frame.Frame.{Frame}
 use Rattle.stack_collector.specs.declared.steps.Progress.TheVariants.{Push}
 use Rattle.stack_collector.specs.Frames.{pushed, letters_to_pass}
 use Rattle.stack_collector.specs.FrameSteps.{GoesOn, IsPush}
-use Rattle.stack_collector.proofs.FrameLaws.{passing, exponent-some, within-alone, with_syllable, with_place, with_copies, syllable-taken, letters-pushed, letter-to_push}
+use Rattle.stack_collector.proofs.FrameLaws.{passing, exponent-some, within-alone, with_syllable, with_place, with_copies, syllable-taken}
+use Rattle.stack_collector.proofs.FrameLaws.{letters-pushed, letter-to_push}
 use Rattle.stack_collector.proofs.StepsInTurn.{LeadsTo, leads-within, leads-step}
 
 -- the letter of no copies counts for nothing
@@ -59,7 +60,8 @@ module _ (T : TailedPresentation) (is : IsTailedPresentation T) (f : Frame) (e e
 
   some : 1 ≤ s.exponent
   some =
-      subst (λ (x : Syllable). 1 ≤ x.exponent) (sym found) (exponent-some (side_start f.relation) (right_side T.presentation f.relation) m d more)
+      subst (λ (x : Syllable). 1 ≤ x.exponent) (sym found)
+      (exponent-some (side_start f.relation) (right_side T.presentation f.relation) m d more)
 
   pub letter-in_range : (f.generator < s.generator) × (s.generator ≤ T.presentation.rank)
   letter-in_range = let h = taken.frame in h.letter some
@@ -79,5 +81,6 @@ module _ (T : TailedPresentation) (is : IsTailedPresentation T) (f : Frame) (e e
 
     pub letter-left : 1 ≤ left → IsPush T f e s.generator (with_copies (with_syllable (with_place f m) s) (left - 1)) e2
     letter-left rest =
-        leads-step T f (with_syllable (with_place f m) s) e e1 (Push s.generator) (with_copies (with_syllable (with_place f m) s) (left - 1)) e2 begun
+        leads-step T f (with_syllable (with_place f m) s) e e1 (Push s.generator)
+        (with_copies (with_syllable (with_place f m) s) (left - 1)) e2 begun
         (letter-to_push T is (with_syllable (with_place f m) s) taken.frame e1 e2 element left some fewer made rest)

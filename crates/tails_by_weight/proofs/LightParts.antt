@@ -1,12 +1,14 @@
 -- The light sources part by part: the parts of the want order, with the light commutators alone, are the light entries of the want order.
-use Rattle.std.proofs.Common.{◌≡◌, ◌<◌, ◌≤◌, ◌+◌, ◌-◌, ℕ, zero, suc, pred, min, Bool, true, false, cond, List, [], ◌∷◌, ◌++◌, length, map, refl, ap, ap₂, sym, ◌∙◌, inl, inr, arith}
+use Rattle.std.proofs.Common.{◌≡◌, ◌<◌, ◌≤◌, ◌+◌, ◌-◌, ℕ, zero, suc, pred, min, Bool, true, false, cond, List, [], ◌∷◌, ◌++◌, length, map}
+use Rattle.std.proofs.Common.{refl, ap, ap₂, sym, ◌∙◌, inl, inr, arith}
 use Rattle.std.specs.Prelude.{filter}
 use Rattle.std.specs.List.{flat_map}
 use Rattle.std.proofs.lemmas.Bool.{cases_lt, cond-true, cond-false, le-leb, lt-leb}
 use Rattle.std.proofs.lemmas.List.Elements.{filter-append}
 use Rattle.pq_base.specs.Answer.{Answer, Definition as Source, IsAnswer, class_of}
 use Rattle.pq_base.specs.Answer.Definition.{image, commutator, power}
-use Rattle.pq_base.specs.Canonical.{numbers_from, weight_of, rank_up_to, commutators_of, commutators_up_to, all_commutators, all_powers, all_images}
+use Rattle.pq_base.specs.Canonical.{numbers_from, weight_of, rank_up_to, commutators_of, commutators_up_to, all_commutators, all_powers}
+use Rattle.pq_base.specs.Canonical.{all_images}
 use Rattle.p_cover.specs.Wanted.{is_wanted, wanted}
 use Rattle.p_cover.proofs.WantSteps.{all_sources-parts}
 use Rattle.tails_by_weight.specs.LightCovers.{is_light, light_sources}

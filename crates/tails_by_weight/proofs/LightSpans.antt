@@ -29,9 +29,11 @@ use Rattle.cover_quotient.proofs.carried_rows.CarriedRows.{normal_from_row}
 use Rattle.cover_quotient.proofs.carried_rows.RowWords.{span-trivial}
 use Rattle.cover_quotient.proofs.spans.OverlapRows.{AreRows-from_all, InSpan-contained, trivial_rows_are_the_span}
 use Rattle.tails_by_weight.specs.LightCovers.{is_light, light_sources, light_cover_of}
-use Rattle.tails_by_weight.specs.WeightLaws.{SpanLightOverlaps, LightOverlapsSpanAll, IsLightOverlapRow, AreLightOverlapRows, extended, LightSpansAreCutFromFullSpans}
+use Rattle.tails_by_weight.specs.WeightLaws.{SpanLightOverlaps, LightOverlapsSpanAll, IsLightOverlapRow, AreLightOverlapRows, extended}
+use Rattle.tails_by_weight.specs.WeightLaws.{LightSpansAreCutFromFullSpans}
 use Rattle.tails_by_weight.proofs.light.LightRows.{full_row-row, extended-row}
-use Rattle.tails_by_weight.proofs.light.LightWords.{light_cover-rowed, full_cover-rowed, left_out-trivial, trivial_in_light, trivial_in_full}
+use Rattle.tails_by_weight.proofs.light.LightWords.{light_cover-rowed, full_cover-rowed, left_out-trivial, trivial_in_light}
+use Rattle.tails_by_weight.proofs.light.LightWords.{trivial_in_full}
 use Rattle.tails_by_weight.proofs.light.LightQuotients.{trivial_in_light_span}
 
 pub light_overlaps_span_all : LightOverlapsSpanAll

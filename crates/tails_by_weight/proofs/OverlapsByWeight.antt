@@ -6,9 +6,12 @@ use Rattle.pc_presentation.specs.declared.overlap.Overlap.{Overlap}
 use Rattle.pc_presentation.specs.declared.overlap.Overlap.TheVariants.{Triple, Left, Right, Own}
 use Rattle.pc_presentation.proofs.consistent.OverlapKinds.{kind_of, latest_of, middle_of, earliest_of}
 use Rattle.cover_quotient.proofs.canonical_answers.ClassesByWeight.{rank-within}
-use Rattle.tails_by_weight.specs.LightOverlaps.{IsLightOverlap, with_room, light_triples_of, light_triples_with, light_triples, light_pairs_with, light_pairs, light_owns, light_overlaps}
+use Rattle.tails_by_weight.specs.LightOverlaps.{IsLightOverlap, with_room, light_triples_of, light_triples_with, light_triples}
+use Rattle.tails_by_weight.specs.LightOverlaps.{light_pairs_with, light_pairs, light_owns, light_overlaps}
 use Rattle.tails_by_weight.specs.WeightLaws.{EachLightOverlapOnce}
-use Rattle.pq_base.proofs.ListMembers.{In, Apart, In-append_left, In-append_right, In-append_cases, In-map, In-map_cases, In-flat_map, In-flat_map_cases, In-numbers, numbers-range, Contains-from_In, In-from_Contains, Apart-append, Apart-map, Apart-flat_map, Apart-numbers, Apart-places}
+use Rattle.pq_base.proofs.ListMembers.{In, Apart, In-append_left, In-append_right, In-append_cases, In-map, In-map_cases, In-flat_map}
+use Rattle.pq_base.proofs.ListMembers.{In-flat_map_cases, In-numbers, numbers-range, Contains-from_In, In-from_Contains, Apart-append}
+use Rattle.pq_base.proofs.ListMembers.{Apart-map, Apart-flat_map, Apart-numbers, Apart-places}
 use Rattle.tails_by_weight.proofs.RoomLaws.{with_room-has, with_room-only, rank_up_to-weight, weight-rank_up_to}
 
 -- lists over the numbers with room

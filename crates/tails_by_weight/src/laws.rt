@@ -1,6 +1,7 @@
 //! What is proved of covers and overlaps cut by weight. The functions do nothing: each states a law as its clause.
 
-ghost use Rattle.tails_by_weight.specs.WeightLaws.{EachLightOverlapOnce, LightSourcesAreThoseWithRoom, LightCoversLeaveOutHeavyTails, OverlapsByWeightMakeConsistent, LightOverlapsSpanAll, LightSpansAreCutFromFullSpans};
+ghost use Rattle.tails_by_weight.specs.WeightLaws.{EachLightOverlapOnce, LightSourcesAreThoseWithRoom, LightCoversLeaveOutHeavyTails};
+ghost use Rattle.tails_by_weight.specs.WeightLaws.{OverlapsByWeightMakeConsistent, LightOverlapsSpanAll, LightSpansAreCutFromFullSpans};
 
 /// The light overlaps are the overlaps within the bounds on weights, each once.
 #[tactic(auto, using(crate::proofs::OverlapsByWeight::each_light_overlap_once))]

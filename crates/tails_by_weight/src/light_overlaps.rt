@@ -1,7 +1,8 @@
 //! Overlaps whose weights leave room for the next class.
 
 ghost use Rattle.std.specs.Prelude.{◌≡◌, ◌≤◌, ◌<◌, ◌++◌, IfOk, OnOk};
-ghost use Rattle.tails_by_weight.specs.LightOverlaps.{light_triples_of, light_triples_with, light_triples, light_pairs_with, light_pairs, light_owns, light_overlaps};
+ghost use Rattle.tails_by_weight.specs.LightOverlaps.{light_triples_of, light_triples_with, light_triples, light_pairs_with, light_pairs};
+ghost use Rattle.tails_by_weight.specs.LightOverlaps.{light_owns, light_overlaps};
 ghost use Rattle.tails_by_weight.specs.LightParts.{pair_of};
 
 use crate::room::{count_up_to, count_with_room};

@@ -43,7 +43,8 @@ use Rattle.tower.proofs.TakenSources.{taken-tests, taken-relator_row, taken-trus
 -- the named relators die in a stage
 pub named-die : (L : LPresentation) (rs : List Relator) (p c : ℕ) (A : Answer) → IsStage (named_part L rs) p c A → All (Dies L A) rs
 named-die L rs p c A stage =
-    All-weaker (Contains rs) (Dies L A) (λ r h. stage-kills (named_part L rs) p c A stage (named_word L r) (named-relator L rs r h)) rs (All-contains_itself rs)
+    All-weaker (Contains rs) (Dies L A) (λ r h. stage-kills (named_part L rs) p c A stage (named_word L r) (named-relator L rs r h)) rs
+    (All-contains_itself rs)
 
 -- the pushes of a collector are a meaning in each cover
 pub cover-meaning : (meaning : RowedPresentation → State → ℕ → State)
@@ -62,7 +63,8 @@ over-span full L p c C kind stage push meaning R over spans =
     stage.consistent meaning at.are spans
 
 -- what the elimination answers
-pub step-from : (L : LPresentation) (p c : ℕ) (C : CoverOf) (push : State → ℕ → State) (B : Echelon) → IsStepOf L p c C push B → c < max_class
+pub step-from : (L : LPresentation) (p c : ℕ) (C : CoverOf) (push : State → ℕ → State) (B : Echelon) → IsStepOf L p c C push B
+    → c < max_class
     → C.answer.presentation.rank ≤ max_rank → (step : Step) → IsStep C B.rows step → IsStepFrom L p c C.answer step
 step-from L p c C push B of few small (Next a) is =
     let some = is.1 in

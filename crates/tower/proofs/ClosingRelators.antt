@@ -39,8 +39,10 @@ pub record IsNamedBy (K : Echelon) (xs : List PrimeRow) (ms : List PrimeMatrix) 
   pub images : HoldsProducts K.prime K.width xs ms added
 
 -- by other names of the rows and the matrices
-pub named-by : (K : Echelon) (ys xs : List PrimeRow) (ns ms : List PrimeMatrix) (added : List (List ℕ)) (names : List Spun) → ys ≡ xs → ns ≡ ms
-    → added ≡ K.added ++ spun_rows K.prime K.width ys ns names → AreNames (length ys) (length ns) names → HoldsProducts K.prime K.width ys ns added
+pub named-by : (K : Echelon) (ys xs : List PrimeRow) (ns ms : List PrimeMatrix) (added : List (List ℕ)) (names : List Spun) → ys ≡ xs
+    → ns ≡ ms
+    → added ≡ K.added ++ spun_rows K.prime K.width ys ns names → AreNames (length ys) (length ns) names
+    → HoldsProducts K.prime K.width ys ns added
     → IsNamedBy K xs ms added names
 named-by K ys xs ns ms added names same same' made named images =
     subst (λ (zs : List PrimeRow). IsNamedBy K zs ms added names) same
@@ -99,7 +101,8 @@ module _ (L : LPresentation) (is : IsLPresentation L) (c : ℕ) (C : CoverOf) (c
       prime width
 
   -- what it names
-  module _ (added : List (List ℕ)) (names : List Spun) (closed : IsNamedBy K xs ms added names) (rs : List Relator) (are : rs ≡ spun_relators names) where
+  module _ (added : List (List ℕ)) (names : List Spun) (closed : IsNamedBy K xs ms added names) (rs : List Relator)
+      (are : rs ≡ spun_relators names) where
     pub closing-iterated : AreIterated L rs
     closing-iterated = subst (AreIterated L) (sym are) (spun-iterated L C cover ms lifts xs given names closed.named)
 

@@ -1,5 +1,6 @@
 -- Rows of the iterated relators and matrices of the endomorphisms, found one after the other.
-use Rattle.std.proofs.Common.{◌≡◌, ◌⊎◌, ℕ, zero, suc, ◌+◌, ◌<◌, ℤ, List, [], ◌∷◌, ◌++◌, length, map, get_or, refl, ap, sym, ◌∙◌, subst, arith, inl, inr, eq-or-lt_of_le}
+use Rattle.std.proofs.Common.{◌≡◌, ◌⊎◌, ℕ, zero, suc, ◌+◌, ◌<◌, ℤ, List, [], ◌∷◌, ◌++◌, length, map, get_or, refl, ap, sym, ◌∙◌, subst}
+use Rattle.std.proofs.Common.{arith, inl, inr, eq-or-lt_of_le}
 use Rattle.std.specs.List.{All}
 use Rattle.std.proofs.lemmas.List.{length_push, length-map}
 use Rattle.std.proofs.lemmas.List.Elements.{All-push}
@@ -12,7 +13,8 @@ use Rattle.relator_spin.specs.Closure.{matrix_at}
 use Rattle.tower.specs.SpunParts.{IsRowOver}
 
 -- a list of values, one longer
-mapped-old : {X Y : Type 0} (f : X → Y) (xs : List X) (x : X) (i : ℕ) (d : Y) → i < length xs → get_or (map f (xs ++ x ∷ [])) i d ≡ get_or (map f xs) i d
+mapped-old : {X Y : Type 0} (f : X → Y) (xs : List X) (x : X) (i : ℕ) (d : Y) → i < length xs
+    → get_or (map f (xs ++ x ∷ [])) i d ≡ get_or (map f xs) i d
 mapped-old f [] x i d h = absurd (omega arith)
 mapped-old f (y ∷ xs) x zero d h = refl
 mapped-old f (y ∷ xs) x (suc i) d h = mapped-old f xs x i d (omega arith)
@@ -63,7 +65,8 @@ pub record AreLiftsSoFar (C : CoverOf) (endos : List (List (List ℤ))) (n : ℕ
   pub matrices : All (IsMatrixOver C) ms
   pub carry : (e : ℕ) → e < n → CarriesRows C (get_or endos e []) (matrix_at ms (suc e))
 
-pub lifts-more : (C : CoverOf) (endos : List (List (List ℤ))) (n : ℕ) (ms ns : List PrimeMatrix) (m : PrimeMatrix) → AreLiftsSoFar C endos n ms
+pub lifts-more : (C : CoverOf) (endos : List (List (List ℤ))) (n : ℕ) (ms ns : List PrimeMatrix) (m : PrimeMatrix)
+    → AreLiftsSoFar C endos n ms
     → IsMatrixOver C m → CarriesRows C (get_or endos n []) m.rows → ns ≡ ms ++ m ∷ [] → AreLiftsSoFar C endos (n + 1) ns
 lifts-more C endos n ms ns m lifts over carries pushed =
     let count = lifts.count in
@@ -75,7 +78,8 @@ lifts-more C endos n ms ns m lifts over carries pushed =
           elim (last-or_before e n l) [
             | inl same ↦
                 let here : e ≡ length ms = omega arith in
-                subst (λ (rows : List (List ℕ)). CarriesRows C (get_or endos e []) rows) (sym (mapped-new (λ (k : PrimeMatrix). k.rows) ms m e [] here))
+                subst (λ (rows : List (List ℕ)). CarriesRows C (get_or endos e []) rows)
+                (sym (mapped-new (λ (k : PrimeMatrix). k.rows) ms m e [] here))
                 (subst (λ (k : ℕ). CarriesRows C (get_or endos k []) m.rows) (sym same) carries)
             | inr before ↦
                 subst (λ (rows : List (List ℕ)). CarriesRows C (get_or endos e []) rows)

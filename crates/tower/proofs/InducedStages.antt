@@ -94,7 +94,8 @@ module _ (L : LPresentation) (is : IsLPresentation L) (p c : ℕ) (A : Answer) (
   pub stages_induce : Induces A (get_or L.endos e [])
   stages_induce w dies =
       let zero_there : value T carried w ≡ 0 =
-      died-zero (part L iterated_part) p c A (stages_are_largest (part L iterated_part) p c A stage) T carried table.group class carried-obeys
+      died-zero (part L iterated_part) p c A (stages_are_largest (part L iterated_part) p c A stage) T carried table.group class
+      carried-obeys
       w dies in
       (table.joined (sub (sub w endo) (image_words A)) []
       (HasLetters-sub A.presentation.rank (sub w endo) (image_words A) (AreWords-image_words A stage.answer stage.consistent)) tt).1

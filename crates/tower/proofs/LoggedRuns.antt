@@ -68,7 +68,8 @@ module _ (full : Bool) (L : LPresentation) (meaning : RowedPresentation → Stat
       }
 
   -- a run ends at its class
-  pub holds-whole : (X : List HeldStep → Type 0) (n c : ℕ) (A : Answer) → HoldsSteps full L meaning p n X A → n ≡ c → HoldsRun full L meaning p c X A
+  pub holds-whole : (X : List HeldStep → Type 0) (n c : ℕ) (A : Answer) → HoldsSteps full L meaning p n X A → n ≡ c
+      → HoldsRun full L meaning p c X A
   holds-whole X n c A holds last = record {
     steps = holds.steps;
     kept = holds.kept;

@@ -14,7 +14,8 @@ use Rattle.tower.specs.NamedParts.{named_word, named_part, recorded_source}
 pub listed-word : (ws vs : List (List ℤ)) (i : ℕ) (w : List ℤ) → vs ≡ ws → i < length vs → w ≡ get_or vs i w → get_or ws i [] ≡ w
 listed-word ws vs i w same l is = sym (is ∙ get_or_default vs i w [] l ∙ ap (λ (us : List (List ℤ)). get_or us i []) same)
 
-pub listed-letters : (n : ℕ) (names : List (List ℕ)) (ws vs : List (List ℤ)) (i : ℕ) (w : List ℤ) → n ≡ length names → AreWords n ws → vs ≡ ws
+pub listed-letters : (n : ℕ) (names : List (List ℕ)) (ws vs : List (List ℤ)) (i : ℕ) (w : List ℤ) → n ≡ length names → AreWords n ws
+    → vs ≡ ws
     → i < length vs → w ≡ get_or vs i w → HasLetters (length names) w
 listed-letters n names ws vs i w count words same l is =
     subst (λ (m : ℕ). HasLetters m w) count (subst (HasLetters n) (listed-word ws vs i w same l is) (HasLetters-get_or n ws i words))

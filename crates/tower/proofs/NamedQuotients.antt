@@ -7,7 +7,8 @@ use Rattle.pq_base.specs.LPresentation.IsRelator.{fixed_relator, iterated_relato
 use Rattle.pq_base.specs.Answer.{Answer}
 use Rattle.pq_base.specs.Canonical.{numbers_from}
 use Rattle.pq_base.specs.Relators.{HasSameRelators}
-use Rattle.pq_base.proofs.ListMembers.{In, In-append_left, In-append_right, In-append_cases, In-get_or, In-map, In-map_cases, In-numbers, numbers-range, Contains-from_In}
+use Rattle.pq_base.proofs.ListMembers.{In, In-append_left, In-append_right, In-append_cases, In-get_or, In-map, In-map_cases, In-numbers}
+use Rattle.pq_base.proofs.ListMembers.{numbers-range, Contains-from_In}
 use Rattle.pq_base.proofs.SameRelators.{same-relators_turned, same-obeys}
 use Rattle.tower.specs.declared.relator.Relator.{Relator}
 use Rattle.tower.specs.declared.relator.Relator.TheVariants.{Fixed, Iterated}
@@ -16,7 +17,8 @@ use Rattle.tower.specs.Answers.{IsQuotient}
 use Rattle.derivation_log.specs.declared.source.Run.{Run}
 use Rattle.tower.specs.declared.refusal.TowerRefusal.{TowerRefusal}
 use Rattle.tower.specs.Refusals.{IsRefusalOf}
-use Rattle.tower.specs.QuotientLaws.{AreObeyedAlike, SameRelatorsGiveSameAnswers, AllNumbersNameAll, NamedPartsHaveTheRelators, NamedPartsHaveTheAnswers}
+use Rattle.tower.specs.QuotientLaws.{AreObeyedAlike, SameRelatorsGiveSameAnswers, AllNumbersNameAll, NamedPartsHaveTheRelators}
+use Rattle.tower.specs.QuotientLaws.{NamedPartsHaveTheAnswers}
 use Rattle.tower.proofs.NamedLaws.{named-relator, named-all}
 use Rattle.tower.proofs.ObeyedAlike.{presentations_obeyed_alike_have_same_answers, refusal-of_same}
 
@@ -110,10 +112,12 @@ named_parts_have_the_answers L rs none all =
     same_relators_give_same_answers L (named_part L rs) (named_parts_have_the_relators L rs none all)
 
 -- the quotient of the named part with all numbers is that of the presentation, and so is a refusal
-pub quotient-of_all : (L : LPresentation) (p c : ℕ) (A : Answer) → L.endos ≡ [] → IsQuotient (named_part L (all_named L)) p c A → IsQuotient L p c A
+pub quotient-of_all : (L : LPresentation) (p c : ℕ) (A : Answer) → L.endos ≡ [] → IsQuotient (named_part L (all_named L)) p c A
+    → IsQuotient L p c A
 quotient-of_all L p c A none is = ((named_parts_have_the_answers L (all_named L) none (all_numbers_name_all L)).quotients p c A).1 is
 
-pub refusal-of_all : (L : LPresentation) (p c : ℕ) (run : Run) (e : TowerRefusal) → L.endos ≡ [] → IsRefusalOf (named_part L (all_named L)) p c run e
+pub refusal-of_all : (L : LPresentation) (p c : ℕ) (run : Run) (e : TowerRefusal) → L.endos ≡ []
+    → IsRefusalOf (named_part L (all_named L)) p c run e
     → IsRefusalOf L p c run e
 refusal-of_all L p c run e none is =
     let M : LPresentation = named_part L (all_named L) in

@@ -72,7 +72,8 @@ grown-first L q names A named some limit distinct is =
     })
 
 -- the answer of the last class
-pub quotient-last : (L : LPresentation) (p c d : ℕ) (A : Answer) → IsGrown L p c A → A.presentation.rank ≤ max_rank → c ≡ d → IsQuotient L p d A
+pub quotient-last : (L : LPresentation) (p c d : ℕ) (A : Answer) → IsGrown L p c A → A.presentation.rank ≤ max_rank → c ≡ d
+    → IsQuotient L p d A
 quotient-last L p c d A grown few same = subst (λ (k : ℕ). IsQuotient L p k A) same (quotient-from_tower L p c A grown.tower few)
 
 -- the ranks of values are at most the greatest

@@ -3,7 +3,8 @@
 -- are trusted, and the stage of those recorded before kills all iterated ones, so it is a stage of the new ones too.
 use Rattle.std.proofs.Common.{◌≡◌, ℕ, suc, ◌-◌, ◌+◌, ◌<◌, ◌≤◌, ℤ, List, [], ◌++◌, length, refl, ap, sym, ◌∙◌, subst, arith}
 use Rattle.std.specs.List.{Contains}
-use Rattle.std.proofs.lemmas.List.Elements.{All-nil, All-append, All-weaker, All-contains_itself, Contains-append_left, Contains-append_right}
+use Rattle.std.proofs.lemmas.List.Elements.{All-nil, All-append, All-weaker, All-contains_itself, Contains-append_left}
+use Rattle.std.proofs.lemmas.List.Elements.{Contains-append_right}
 use Rattle.pq_base.specs.Limits.{max_class, max_rank, max_names}
 use Rattle.pq_base.specs.SignedWord.{sub}
 use Rattle.pq_base.specs.LPresentation.{LPresentation, IsLPresentation, IsRelator, AreDistinct, part}

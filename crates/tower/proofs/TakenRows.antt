@@ -38,7 +38,8 @@ next-in {X} xs yielded left rest x whole step =
     (Contains-append_left (yielded ++ x ∷ []) rest x (Contains-push yielded x))
 
 -- the overlap that comes next is one
-pub next-overlap : (n : ℕ) (os left rest : List Overlap) (o : Overlap) → os ++ left ≡ all_overlaps n → left ≡ o ∷ rest → AreOverlapNumbers n o
+pub next-overlap : (n : ℕ) (os left rest : List Overlap) (o : Overlap) → os ++ left ≡ all_overlaps n → left ≡ o ∷ rest
+    → AreOverlapNumbers n o
 next-overlap n os left rest o whole step = ((each_overlap_once n).members o).0 (next-in (all_overlaps n) os left rest o whole step)
 
 -- what holds of all members of a list holds of the one that comes next
@@ -63,8 +64,10 @@ module _ (C : CoverOf) where
   q = length C.sources
 
   -- what an insertion of the row that was found makes of rows over the cover
-  module _ (R M S : StepRows) (source : RowSource) (over : AreOver C R) (same : M.basis ≡ R.basis) (noted : M.noted ≡ R.noted) (room : M.room ≡ R.room)
-      (prime : M.row.prime ≡ C.answer.presentation.prime) (width : length M.row.entries ≡ length C.sources) (ins : HasInserted M S source) where
+  module _ (R M S : StepRows) (source : RowSource) (over : AreOver C R) (same : M.basis ≡ R.basis) (noted : M.noted ≡ R.noted)
+      (room : M.room ≡ R.room)
+      (prime : M.row.prime ≡ C.answer.presentation.prime) (width : length M.row.entries ≡ length C.sources)
+      (ins : HasInserted M S source) where
     base_prime : M.basis.prime ≡ p
     base_prime = ap (λ (B : Echelon). B.prime) same ∙ over.prime
 
@@ -115,8 +118,10 @@ module _ (C : CoverOf) where
         elim ins.takes [
           | inl h ↦ subst (λ (rows : List (List ℕ)). InSpan p q rows y) (sym (h.1 ∙ ap (λ (B : Echelon). B.added) same)) k
           | inr h ↦
-              let eq : S.basis.added ≡ R.basis.added ++ M.row.entries ∷ [] = h.0 ∙ ap (λ (B : Echelon). B.added ++ M.row.entries ∷ []) same in
-              subst (λ (rows : List (List ℕ)). InSpan p q rows y) (sym eq) (InSpan-push p q R.basis.added M.row.entries y (omega arith) old.are (row_added eq) k)
+              let eq : S.basis.added ≡ R.basis.added ++ M.row.entries ∷ [] =
+              h.0 ∙ ap (λ (B : Echelon). B.added ++ M.row.entries ∷ []) same in
+              subst (λ (rows : List (List ℕ)). InSpan p q rows y) (sym eq)
+              (InSpan-push p q R.basis.added M.row.entries y (omega arith) old.are (row_added eq) k)
         ]
 
     span_new : InSpan p q S.basis.added M.row.entries
@@ -127,8 +132,10 @@ module _ (C : CoverOf) where
               subst (λ (rows : List (List ℕ)). InSpan p q rows M.row.entries) (sym h.1)
               (span-at M.basis p q M.row.entries base_prime base_width h.0)
           | inr h ↦
-              let eq : S.basis.added ≡ R.basis.added ++ M.row.entries ∷ [] = h.0 ∙ ap (λ (B : Echelon). B.added ++ M.row.entries ∷ []) same in
-              subst (λ (rows : List (List ℕ)). InSpan p q rows M.row.entries) (sym eq) (InSpan-last p q R.basis.added M.row.entries (omega arith) old.are (row_added eq))
+              let eq : S.basis.added ≡ R.basis.added ++ M.row.entries ∷ [] =
+              h.0 ∙ ap (λ (B : Echelon). B.added ++ M.row.entries ∷ []) same in
+              subst (λ (rows : List (List ℕ)). InSpan p q rows M.row.entries) (sym eq)
+              (InSpan-last p q R.basis.added M.row.entries (omega arith) old.are (row_added eq))
         ]
 
     module _ (L : LPresentation) (push : State → ℕ → State) (is : IsRowOf L C push source M.row.entries) where
@@ -138,7 +145,8 @@ module _ (C : CoverOf) where
             subst (λ (ss : List RowSource). AreRowsOf L C push ss S.basis.added) (sym (h.2 ∙ noted))
             (subst (AreRowsOf L C push R.noted) (sym (h.1 ∙ ap (λ (B : Echelon). B.added) same)) rows)
         | inr h ↦
-            subst (λ (ss : List RowSource). AreRowsOf L C push ss S.basis.added) (sym (h.1 ∙ ap (λ (ss : List RowSource). ss ++ source ∷ []) noted))
+            subst (λ (ss : List RowSource). AreRowsOf L C push ss S.basis.added)
+            (sym (h.1 ∙ ap (λ (ss : List RowSource). ss ++ source ∷ []) noted))
             (subst (AreRowsOf L C push (R.noted ++ source ∷ [])) (sym (h.0 ∙ ap (λ (B : Echelon). B.added ++ M.row.entries ∷ []) same))
             (rows_of-push L C push R.noted R.basis.added source M.row.entries rows is))
       ]
@@ -146,7 +154,8 @@ module _ (C : CoverOf) where
       noted_more : (sources : List RowSource) → All (Contains sources) R.noted → All (Contains (sources ++ source ∷ [])) S.noted
       noted_more sources all =
           let before : All (Contains (sources ++ source ∷ [])) R.noted =
-          All-weaker (Contains sources) (Contains (sources ++ source ∷ [])) (λ s h. Contains-append_left sources (source ∷ []) s h) R.noted all in
+          All-weaker (Contains sources) (Contains (sources ++ source ∷ []))
+          (λ s h. Contains-append_left sources (source ∷ []) s h) R.noted all in
           elim ins.takes [
             | inl h ↦ subst (All (Contains (sources ++ source ∷ []))) (sym (h.2 ∙ noted)) before
             | inr h ↦
@@ -169,7 +178,8 @@ module _ (C : CoverOf) where
     pub taken-none : (R : StepRows) → R.basis.added ≡ [] → R.noted ≡ [] → HaveTaken L C push [] R
     taken-none R none no_source = record {
       rows =
-          subst (λ (ss : List RowSource). AreRowsOf L C push ss R.basis.added) (sym no_source) (subst (AreRowsOf L C push []) (sym none) tt);
+          subst (λ (ss : List RowSource). AreRowsOf L C push ss R.basis.added) (sym no_source)
+          (subst (AreRowsOf L C push []) (sym none) tt);
       noted = subst (All (Contains [])) (sym no_source) (All-nil _);
       spanned = All-nil _;
     }

@@ -13,7 +13,8 @@ use Rattle.tower.specs.declared.refusal.TowerRefusal.{TowerRefusal}
 use Rattle.tower.specs.declared.refusal.TowerRefusal.TheVariants.{TooLarge, NoMemory}
 
 -- n steps are kept, over full covers or over those cut by weight, which lead from the trivial answer to this one
-pub record HoldsSteps (full : Bool) (L : LPresentation) (meaning : RowedPresentation → State → ℕ → State) (p n : ℕ) (keeps : List HeldStep → Type 0)
+pub record HoldsSteps (full : Bool) (L : LPresentation) (meaning : RowedPresentation → State → ℕ → State) (p n : ℕ)
+    (keeps : List HeldStep → Type 0)
     (A : Answer) : Type 0 where
   pub steps : List HeldStep
   pub kept : keeps steps
@@ -21,7 +22,8 @@ pub record HoldsSteps (full : Bool) (L : LPresentation) (meaning : RowedPresenta
   pub count : length steps ≡ n
 
 -- the steps of a run to class c are kept, which make this answer
-pub record HoldsRun (full : Bool) (L : LPresentation) (meaning : RowedPresentation → State → ℕ → State) (p c : ℕ) (keeps : List HeldStep → Type 0)
+pub record HoldsRun (full : Bool) (L : LPresentation) (meaning : RowedPresentation → State → ℕ → State) (p c : ℕ)
+    (keeps : List HeldStep → Type 0)
     (A : Answer) : Type 0 where
   pub steps : List HeldStep
   pub kept : keeps steps
@@ -34,7 +36,8 @@ IsDoneBefore c (TooLarge run k rank) n A = (n ≡ k) × (A.presentation.rank ≡
 IsDoneBefore c NoMemory n A = n < c
 
 -- the steps are kept that were done before a run to class c was refused
-pub record HoldsRefused (full : Bool) (L : LPresentation) (meaning : RowedPresentation → State → ℕ → State) (p c : ℕ) (keeps : List HeldStep → Type 0)
+pub record HoldsRefused (full : Bool) (L : LPresentation) (meaning : RowedPresentation → State → ℕ → State) (p c : ℕ)
+    (keeps : List HeldStep → Type 0)
     (refusal : TowerRefusal) : Type 0 where
   pub many : ℕ
   pub answer : Answer

@@ -46,7 +46,8 @@ pub record HasInserted (R S : StepRows) (source : RowSource) : Type 0 where
       ⊎ ((S.basis.added ≡ R.basis.added ++ R.row.entries ∷ []) × (S.noted ≡ R.noted ++ source ∷ []))
 
 -- a row of the source lies in the span
-pub record HasSpannedRow (L : LPresentation) (C : CoverOf) (push : State → ℕ → State) (rows : List (List ℕ)) (source : RowSource) : Type 0 where
+pub record HasSpannedRow (L : LPresentation) (C : CoverOf) (push : State → ℕ → State) (rows : List (List ℕ))
+    (source : RowSource) : Type 0 where
   pub row : List ℕ
   pub is : IsRowOf L C push source row
   pub span : InSpan C.answer.presentation.prime (length C.sources) rows row

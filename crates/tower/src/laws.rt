@@ -1,6 +1,7 @@
 //! Laws of quotients and refusals: each function does nothing, and its clause is a theorem.
 
-ghost use Rattle.tower.specs.QuotientLaws.{SameRelatorsGiveSameAnswers, AllNumbersNameAll, NamedPartsHaveTheRelators, NamedPartsHaveTheAnswers};
+ghost use Rattle.tower.specs.QuotientLaws.{SameRelatorsGiveSameAnswers, AllNumbersNameAll, NamedPartsHaveTheRelators};
+ghost use Rattle.tower.specs.QuotientLaws.{NamedPartsHaveTheAnswers};
 ghost use Rattle.tower.specs.QuotientLaws.{PresentationsObeyedAlikeHaveSameAnswers, EnoughAndFixedAreObeyedAlike};
 
 /// L-presentations with the same relators have the same quotients, and the same refusals.

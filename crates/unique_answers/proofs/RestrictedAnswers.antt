@@ -1,12 +1,14 @@
 -- Cut to a class, a canonical answer is canonical: right sides are parts of those before, and at each class that stays the same entries
 -- define the same generators, with the same new parts.
-use Rattle.std.proofs.Common.{◌≡◌, ◌≢◌, ℕ, zero, suc, ◌+◌, ◌-◌, ◌<◌, ◌≤◌, ◌&&◌, eqb, List, [], ◌∷◌, get_or, length, take, drop, inl, inr, refl, ap, ap₂, sym, ◌∙◌, subst, arith}
+use Rattle.std.proofs.Common.{◌≡◌, ◌≢◌, ℕ, zero, suc, ◌+◌, ◌-◌, ◌<◌, ◌≤◌, ◌&&◌, eqb, List, [], ◌∷◌, get_or, length, take, drop, inl, inr}
+use Rattle.std.proofs.Common.{refl, ap, ap₂, sym, ◌∙◌, subst, arith}
 use Rattle.std.specs.List.{All}
 use Rattle.std.proofs.lemmas.List.Elements.{All-head, All-tail}
 use Rattle.pq_base.specs.Presentation.{power_side, commutator_side}
 use Rattle.pq_base.specs.Answer.{Answer, Definition, IsAnswer, weight_at, definition_at}
 use Rattle.pq_base.specs.Answer.Definition.{image, commutator, power}
-use Rattle.pq_base.specs.Canonical.{rank_up_to, new_count, new_exponents, new_part, unit, is_qualifying, want_order, up_to_class, IsAllowed, DefinesNext, DefinesNone, AreMet, ObeysWeights, TakesTurns}
+use Rattle.pq_base.specs.Canonical.{rank_up_to, new_count, new_exponents, new_part, unit, is_qualifying, want_order, up_to_class, IsAllowed}
+use Rattle.pq_base.specs.Canonical.{DefinesNext, DefinesNone, AreMet, ObeysWeights, TakesTurns}
 use Rattle.pq_base.specs.EntryWords.{IsSourceOf}
 use Rattle.cover_quotient.proofs.canonical_answers.ClassesByWeight.{rank-within, counts-grow}
 use Rattle.unique_answers.specs.UniqueLaws.{RestrictionsAreCanonical}

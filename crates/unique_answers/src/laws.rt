@@ -1,6 +1,7 @@
 //! What is proved of canonical answers to one question. The functions do nothing: each states a law as its clause.
 
-ghost use Rattle.unique_answers.specs.UniqueLaws.{RestrictionsAreCanonical, CanonicalAnswersAreDeterminedByWhatDies, LargestQuotientsKillTheSame, CanonicalLargestQuotientsAreUnique};
+ghost use Rattle.unique_answers.specs.UniqueLaws.{RestrictionsAreCanonical, CanonicalAnswersAreDeterminedByWhatDies};
+ghost use Rattle.unique_answers.specs.UniqueLaws.{LargestQuotientsKillTheSame, CanonicalLargestQuotientsAreUnique};
 
 /// Cut to a class, a canonical answer is canonical.
 #[tactic(auto, using(crate::proofs::RestrictedAnswers::restrictions_are_canonical))]

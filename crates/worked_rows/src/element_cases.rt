@@ -1,4 +1,5 @@
-//! Presentations with tails, and elements over both collectors, which are to give the same. `presentation P T / WEIGHTS` begins one with T tails,
+//! Presentations with tails, and elements over both collectors, which are to give the same. `presentation P T / WEIGHTS` begins one with T
+//! tails,
 //! `relation LEFT = WORD` and `relation LEFT = WORD tail N` give relations, and `finish` ends it: the answer is each
 //! relation that has a right side or a tail. Then come `product U / V`, `inverse U`, `commutator U / V`, `power N / U`,
 //! `evaluate LETTERS / U / V` for the value of a word at two elements, and `ways` with an overlap. A word `a2*a1` is the

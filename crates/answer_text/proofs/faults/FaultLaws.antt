@@ -13,7 +13,8 @@ pub IsFirstBad-step : (P Q : Place) (l rest bytes : List ℕ) (k : ℕ) → HasF
 IsFirstBad-step = fault_steps.IsFirstBad-step Place HasForm IsEnd tells_places
 
 -- no line from here on
-pub IsFirstBad-here : (P : Place) (bytes : List ℕ) → fault_steps.IsStuck Place HasForm IsEnd tells_places P bytes → (IsEnd P → bytes ≡ [] → ⊥)
+pub IsFirstBad-here : (P : Place) (bytes : List ℕ) → fault_steps.IsStuck Place HasForm IsEnd tells_places P bytes
+    → (IsEnd P → bytes ≡ [] → ⊥)
     → IsFirstBad P bytes 0
 IsFirstBad-here = fault_steps.IsFirstBad-here Place HasForm IsEnd tells_places
 

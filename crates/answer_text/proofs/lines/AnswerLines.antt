@@ -19,10 +19,13 @@ pub answer_text-parts : (A : Answer) → answer_text A
     ++ (codes "end" ++ 10 ∷ [])))))
 unfolding answer_text
 answer_text-parts A =
-    six_parts (head_lines A.presentation.prime (class_of A) A.presentation.rank) (generator_lines A.presentation.prime A.names 0 A.weights A.definitions)
-    (power_lines A.presentation.prime 0 A.presentation.powers) (commutator_lines 0 A.presentation.commutators) (image_lines A.names A.images) (codes "end" ∷ [])
+    six_parts (head_lines A.presentation.prime (class_of A) A.presentation.rank)
+    (generator_lines A.presentation.prime A.names 0 A.weights A.definitions)
+    (power_lines A.presentation.prime 0 A.presentation.powers) (commutator_lines 0 A.presentation.commutators)
+    (image_lines A.names A.images) (codes "end" ∷ [])
 
 -- a text that is written in six parts
-pub written_parts : (o0 o1 o2 o3 o4 o5 o6 a b c d e f : List ℕ) → o0 ≡ [] → o1 ≡ o0 ++ a → o2 ≡ o1 ++ b → o3 ≡ o2 ++ c → o4 ≡ o3 ++ d → o5 ≡ o4 ++ e → o6 ≡ o5 ++ f
+pub written_parts : (o0 o1 o2 o3 o4 o5 o6 a b c d e f : List ℕ) → o0 ≡ [] → o1 ≡ o0 ++ a → o2 ≡ o1 ++ b → o3 ≡ o2 ++ c → o4 ≡ o3 ++ d
+    → o5 ≡ o4 ++ e → o6 ≡ o5 ++ f
     → o6 ≡ a ++ (b ++ (c ++ (d ++ (e ++ f))))
 written_parts o0 o1 o2 o3 o4 o5 o6 a b c d e f e0 e1 e2 e3 e4 e5 e6 = rw (e6, e5, e4, e3, e2, e1, e0) (simp append_assoc)

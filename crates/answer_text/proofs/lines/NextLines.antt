@@ -8,7 +8,8 @@ use Rattle.pq_base.specs.Lines.{text_of_lines}
 use Rattle.pc_presentation.specs.declared.syllable.Syllable.{Syllable}
 use Rattle.pc_presentation.specs.Syllable.{syllables_of}
 use Rattle.answer_text.specs.Words.{word_text}
-use Rattle.answer_text.specs.AnswerText.{generator_line, generator_lines, relation_lines, power_text, power_lines, commutator_text, commutator_row_lines, commutator_lines, image_line, image_lines}
+use Rattle.answer_text.specs.AnswerText.{generator_line, generator_lines, relation_lines, power_text, power_lines, commutator_text}
+use Rattle.answer_text.specs.AnswerText.{commutator_row_lines, commutator_lines, image_line, image_lines}
 
 pub generator_lines-next : (p : ℕ) (names : List (List ℕ)) (k j m : ℕ) (ws : List ℕ) (ds : List Definition)
     → j ≡ suc k → m ≡ k → k < length ws → k < length ds
@@ -20,12 +21,14 @@ generator_lines-next p names k j m ws ds next same h g =
     ∙ ap (λ (ys : List Definition). generator_lines p names k (get_or ws k 0 ∷ drop (suc k) ws) ys) (drop-cons ds k (image 0) g))
 
 pub power_lines-next : (p k j m : ℕ) (sides : List (List ℕ)) → j ≡ suc k → m ≡ k → k < length sides
-    → power_lines p k (drop k sides) ≡ relation_lines (power_text p j) (syllables_of j (get_or sides m [])) ++ power_lines p j (drop j sides)
+    → power_lines p k (drop k sides)
+    ≡ relation_lines (power_text p j) (syllables_of j (get_or sides m [])) ++ power_lines p j (drop j sides)
 power_lines-next p k j m sides next same h =
     rw (next, same) (ap (λ (xs : List (List ℕ)). power_lines p k xs) (drop-cons sides k [] h))
 
 pub commutator_row_lines-next : (g k j m : ℕ) (sides : List (List ℕ)) → j ≡ suc k → m ≡ k → k < length sides
-    → commutator_row_lines g k (drop k sides) ≡ relation_lines (commutator_text g j) (syllables_of g (get_or sides m [])) ++ commutator_row_lines g j (drop j sides)
+    → commutator_row_lines g k (drop k sides)
+    ≡ relation_lines (commutator_text g j) (syllables_of g (get_or sides m [])) ++ commutator_row_lines g j (drop j sides)
 commutator_row_lines-next g k j m sides next same h =
     rw (next, same) (ap (λ (xs : List (List ℕ)). commutator_row_lines g k xs) (drop-cons sides k [] h))
 

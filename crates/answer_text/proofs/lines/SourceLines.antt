@@ -1,5 +1,6 @@
 -- The lines of generators, with named images, tell the weights and the definitions.
-use Rattle.std.proofs.Common.{◌≡◌, ◌<◌, ◌≤◌, ◌+◌, ◌-◌, ℕ, zero, suc, List, [], ◌∷◌, ◌++◌, get_or, length, drop, map, decimal, refl, ap, ap₂, sym, ◌∙◌, arith, append_assoc}
+use Rattle.std.proofs.Common.{◌≡◌, ◌<◌, ◌≤◌, ◌+◌, ◌-◌, ℕ, zero, suc, List, [], ◌∷◌, ◌++◌, get_or, length, drop, map, decimal, refl, ap, ap₂}
+use Rattle.std.proofs.Common.{sym, ◌∙◌, arith, append_assoc}
 use Rattle.std.specs.Prelude.{codes}
 use Rattle.std.proofs.lemmas.List.{append_cancel_left}
 use Rattle.pq_base.specs.Limits.{max_class, max_names, max_rank}
@@ -30,7 +31,8 @@ source_lines-push p k j (v ∷ ws) [] w s long same = absurd (omega arith)
 source_lines-push p k j (v ∷ ws) (t ∷ ss) w s long same =
     ap (λ (x : List (List ℕ)). source_line p (suc k) v t ∷ x) (source_lines-push p (suc k) j ws ss w s (omega arith) (omega arith))
 
-pub AreSources-push : (n : ℕ) (ws : List ℕ) (ss : List Source) (w : ℕ) (s : Source) → AreSources n ws ss → 1 ≤ w → w ≤ max_class → IsSource n s → length ss ≡ length ws
+pub AreSources-push : (n : ℕ) (ws : List ℕ) (ss : List Source) (w : ℕ) (s : Source) → AreSources n ws ss → 1 ≤ w → w ≤ max_class
+    → IsSource n s → length ss ≡ length ws
     → AreSources n (ws ++ w ∷ []) (ss ++ s ∷ [])
 AreSources-push n [] [] w s a one top is long = (one, top, is, tt)
 AreSources-push n [] (t ∷ ss) w s a one top is long = absurd (omega arith)
@@ -49,14 +51,19 @@ source_text-same p n (RightSide q) (RightSide r) limit u v h =
 source_line-same : (p n k w v : ℕ) (s t : Source) → n < 1000 → w < 1000 → v < 1000 → IsSource n s → IsSource n t
     → source_line p k w s ≡ source_line p k v t → (w ≡ v) × (s ≡ t)
 source_line-same p n k w v s t limit a b is it h =
-    let from_weight = append_cancel_left (decimal k) (codes " weight " ++ (decimal w ++ (codes " from " ++ source_text p s))) (codes " weight " ++ (decimal v ++ (codes " from " ++ source_text p t)))
+    let from_weight =
+    append_cancel_left (decimal k) (codes " weight " ++ (decimal w ++ (codes " from " ++ source_text p s)))
+    (codes " weight " ++ (decimal v ++ (codes " from " ++ source_text p t)))
     (ap (λ (x : List ℕ). drop 11 x) h) in
-    let weight = decimal-same 32 w v (codes "from " ++ source_text p s) (codes "from " ++ source_text p t) (λ d l e. omega arith) a b (ap (λ (x : List ℕ). drop 8 x) from_weight) in
+    let weight =
+    decimal-same 32 w v (codes "from " ++ source_text p s) (codes "from " ++ source_text p t) (λ d l e. omega arith) a b
+    (ap (λ (x : List ℕ). drop 8 x) from_weight) in
     (weight.0, source_text-same p n s t limit is it (ap (λ (x : List ℕ). drop 5 x) weight.1))
 
 pub sources-same : (p n k : ℕ) (ws vs : List ℕ) (ss ts : List Source) (more rest : List ℕ) → IsScale p n → k + length ws ≡ n
     → length ss ≡ length ws → length vs ≡ length ws → length ts ≡ length ws → AreSources n ws ss → AreSources n vs ts
-    → text_of_lines (source_lines p k ws ss) ++ more ≡ text_of_lines (source_lines p k vs ts) ++ rest → (ws ≡ vs) × (ss ≡ ts) × (more ≡ rest)
+    → text_of_lines (source_lines p k ws ss) ++ more ≡ text_of_lines (source_lines p k vs ts) ++ rest
+    → (ws ≡ vs) × (ss ≡ ts) × (more ≡ rest)
 sources-same p n k [] [] [] [] more rest z inside l m o a b h = (refl, refl, h)
 sources-same p n k [] [] [] (t ∷ ts) more rest z inside l m o a b h = absurd (omega arith)
 sources-same p n k [] [] (s ∷ ss) ts more rest z inside l m o a b h = absurd (omega arith)
@@ -67,11 +74,17 @@ sources-same p n k (w ∷ ws) (v ∷ vs) (s ∷ ss) [] more rest z inside l m o 
 sources-same p n k (w ∷ ws) (v ∷ vs) (s ∷ ss) (t ∷ ts) more rest z inside l m o a b h =
     let limit : n ≤ max_rank = z.limit in
     let next : suc k + length ws ≡ n = omega arith in
-    let one : HasForm (in_body p n (suc (length ws)) 0) (source_line p (suc k) w s) (in_body p n (length ws) 0) = generator p n 0 (length ws) k w s z next a.0 a.1 a.2 in
-    let two : HasForm (in_body p n (suc (length ws)) 0) (source_line p (suc k) v t) (in_body p n (length ws) 0) = generator p n 0 (length ws) k v t z next b.0 b.1 b.2 in
-    let whole : source_line p (suc k) w s ++ 10 ∷ (text_of_lines (source_lines p (suc k) ws ss) ++ more) ≡ source_line p (suc k) v t ++ 10 ∷ (text_of_lines (source_lines p (suc k) vs ts) ++ rest) =
-    sym (append_assoc (source_line p (suc k) w s) (10 ∷ text_of_lines (source_lines p (suc k) ws ss)) more) ∙ h ∙ append_assoc (source_line p (suc k) v t) (10 ∷ text_of_lines (source_lines p (suc k) vs ts)) rest in
-    let parts = split-same 10 (source_line p (suc k) w s) (source_line p (suc k) v t) (text_of_lines (source_lines p (suc k) ws ss) ++ more) (text_of_lines (source_lines p (suc k) vs ts) ++ rest)
+    let one : HasForm (in_body p n (suc (length ws)) 0) (source_line p (suc k) w s) (in_body p n (length ws) 0) =
+    generator p n 0 (length ws) k w s z next a.0 a.1 a.2 in
+    let two : HasForm (in_body p n (suc (length ws)) 0) (source_line p (suc k) v t) (in_body p n (length ws) 0) =
+    generator p n 0 (length ws) k v t z next b.0 b.1 b.2 in
+    let whole : source_line p (suc k) w s ++ 10 ∷ (text_of_lines (source_lines p (suc k) ws ss) ++ more)
+    ≡ source_line p (suc k) v t ++ 10 ∷ (text_of_lines (source_lines p (suc k) vs ts) ++ rest) =
+    sym (append_assoc (source_line p (suc k) w s) (10 ∷ text_of_lines (source_lines p (suc k) ws ss)) more)
+    ∙ h ∙ append_assoc (source_line p (suc k) v t) (10 ∷ text_of_lines (source_lines p (suc k) vs ts)) rest in
+    let parts =
+    split-same 10 (source_line p (suc k) w s) (source_line p (suc k) v t) (text_of_lines (source_lines p (suc k) ws ss) ++ more)
+    (text_of_lines (source_lines p (suc k) vs ts) ++ rest)
     (avoids-form one) (avoids-form two) whole in
     let first = source_line-same p n (suc k) w v s t (omega arith) (omega (arith, a.1)) (omega (arith, b.1)) a.2 b.2 parts.0 in
     let others = sources-same p n (suc k) ws vs ss ts more rest z (omega arith) (omega arith) (omega arith) (omega arith) a.3 b.3 parts.1 in
@@ -95,7 +108,8 @@ abbrev pub AreKnown : List (List ℕ) → List Definition → Type 0
 AreKnown names [] = Unit {0}
 AreKnown names (d ∷ ds) = IsKnown names d × AreKnown names ds
 
-resolved-same : (names : List (List ℕ)) (c d : Definition) → AreDistinct names → length names ≤ max_names → IsKnown names c → Resolves names (source_of names c) d → c ≡ d
+resolved-same : (names : List (List ℕ)) (c d : Definition) → AreDistinct names → length names ≤ max_names → IsKnown names c
+    → Resolves names (source_of names c) d → c ≡ d
 resolved-same names (image zero) d distinct limit known r = absurd known
 resolved-same names (image (suc i)) d distinct limit known r =
     let found = r.2 i known (omega arith) refl in
@@ -112,9 +126,11 @@ AreResolved-same names [] [] distinct limit known r = refl
 AreResolved-same names [] (d ∷ ds) distinct limit known r = absurd r
 AreResolved-same names (c ∷ cs) [] distinct limit known r = absurd r
 AreResolved-same names (c ∷ cs) (d ∷ ds) distinct limit known r =
-    ap₂ (λ (x : Definition) (xs : List Definition). x ∷ xs) (resolved-same names c d distinct limit known.0 r.0) (AreResolved-same names cs ds distinct limit known.1 r.1)
+    ap₂ (λ (x : Definition) (xs : List Definition). x ∷ xs) (resolved-same names c d distinct limit known.0 r.0)
+    (AreResolved-same names cs ds distinct limit known.1 r.1)
 
-generator_line-source : (p k w : ℕ) (names : List (List ℕ)) (d : Definition) → IsKnown names d → generator_line p names k w d ≡ source_line p k w (source_of names d)
+generator_line-source : (p k w : ℕ) (names : List (List ℕ)) (d : Definition) → IsKnown names d
+    → generator_line p names k w d ≡ source_line p k w (source_of names d)
 generator_line-source p k w names (image zero) known = absurd known
 generator_line-source p k w names (image (suc i)) known = refl
 generator_line-source p k w names (commutator j i) known = refl
@@ -125,9 +141,11 @@ pub generator_lines-sources : (p k : ℕ) (names : List (List ℕ)) (ws : List �
 generator_lines-sources p k names [] ds known = refl
 generator_lines-sources p k names (w ∷ ws) [] known = refl
 generator_lines-sources p k names (w ∷ ws) (d ∷ ds) known =
-    ap₂ (λ (x : List ℕ) (xs : List (List ℕ)). x ∷ xs) (generator_line-source p (suc k) w names d known.0) (generator_lines-sources p (suc k) names ws ds known.1)
+    ap₂ (λ (x : List ℕ) (xs : List (List ℕ)). x ∷ xs) (generator_line-source p (suc k) w names d known.0)
+    (generator_lines-sources p (suc k) names ws ds known.1)
 
-pub AreResolved-push : (names : List (List ℕ)) (ss : List Source) (ds : List Definition) (s : Source) (d : Definition) → AreResolved names ss ds → Resolves names s d
+pub AreResolved-push : (names : List (List ℕ)) (ss : List Source) (ds : List Definition) (s : Source) (d : Definition)
+    → AreResolved names ss ds → Resolves names s d
     → AreResolved names (ss ++ s ∷ []) (ds ++ d ∷ [])
 AreResolved-push names [] [] s d a r = (r, tt)
 AreResolved-push names [] (e ∷ ds) s d a r = absurd a

@@ -1,5 +1,6 @@
 -- A number below 1000 is read from its decimal digits, and from no other text.
-use Rattle.std.proofs.Common.{◌≡◌, ◌<◌, ◌≤◌, ◌+◌, ◌-◌, ◌*◌, ◌/◌, ◌%◌, ℕ, true, false, cond, ◌&&◌, List, [], ◌∷◌, decimal, refl, ap, sym, ◌∙◌, arith}
+use Rattle.std.proofs.Common.{◌≡◌, ◌<◌, ◌≤◌, ◌+◌, ◌-◌, ◌*◌, ◌/◌, ◌%◌, ℕ, true, false, cond, ◌&&◌, List, [], ◌∷◌, decimal, refl, ap, sym}
+use Rattle.std.proofs.Common.{◌∙◌, arith}
 use Rattle.std.specs.Prelude.{nat_le, nat_lt, Option, Some, None, IfSome, IfNone}
 use Rattle.std.proofs.lemmas.Bool.{leb-true, le-leb, and_parts}
 use Rattle.std.proofs.lemmas.Fmt.{decimal_digit, decimal_step}
@@ -47,12 +48,14 @@ number_of_decimal n h = elim (dec_lt n 10) [
   | no more ↦ elim (dec_lt n 100) [
     | yes middle ↦
         let same : 10 * (n / 10) + n % 10 ≡ n = omega arith in
-        ap (λ (m : ℕ). number_of (decimal m)) (sym same) ∙ ap (λ (t : List ℕ). number_of t) (decimal-two (n / 10) (n % 10) (omega arith) (omega arith) (omega arith))
+        ap (λ (m : ℕ). number_of (decimal m)) (sym same)
+        ∙ ap (λ (t : List ℕ). number_of t) (decimal-two (n / 10) (n % 10) (omega arith) (omega arith) (omega arith))
         ∙ two (n / 10) (n % 10) (omega arith) (omega arith) (omega arith) ∙ ap (λ (m : ℕ). Some m) same
     | no large ↦
         let same : 100 * (n / 100) + (10 * (n / 10 % 10) + n % 10) ≡ n = omega arith in
         ap (λ (m : ℕ). number_of (decimal m)) (sym same)
-        ∙ ap (λ (t : List ℕ). number_of t) (decimal-three (n / 100) (n / 10 % 10) (n % 10) (omega arith) (omega arith) (omega arith) (omega arith))
+        ∙ ap (λ (t : List ℕ). number_of t)
+        (decimal-three (n / 100) (n / 10 % 10) (n % 10) (omega arith) (omega arith) (omega arith) (omega arith))
         ∙ three (n / 100) (n / 10 % 10) (n % 10) (omega arith) (omega arith) (omega arith) (omega arith) ∙ ap (λ (m : ℕ). Some m) same
   ]
 ]
@@ -78,7 +81,8 @@ number_of_is (c ∷ []) n = elim (is_digit c) as (λ t. is_digit c ≡ t → con
       (omega arith, ap (λ (x : ℕ). x ∷ []) byte ∙ sym (decimal_digit n (omega arith)))
 ] refl
 number_of_is (b ∷ c ∷ []) n = elim (nat_lt 48 b && (is_digit b && is_digit c)) as
-    (λ t. (nat_lt 48 b && (is_digit b && is_digit c)) ≡ t → cond t (Some (10 * (b - 48) + (c - 48))) None ≡ Some n → IsText (b ∷ c ∷ []) n) [
+    (λ t. (nat_lt 48 b && (is_digit b && is_digit c)) ≡ t → cond t (Some (10 * (b - 48) + (c - 48))) None ≡ Some n
+    → IsText (b ∷ c ∷ []) n) [
       | false ↦ λ e h. cc
       | true ↦ λ e h.
           let parts = and_parts (nat_lt 48 b) (is_digit b && is_digit c) e in
@@ -98,7 +102,8 @@ number_of_is (b ∷ c ∷ []) n = elim (nat_lt 48 b && (is_digit b && is_digit c
           )
     ] refl
 number_of_is (a ∷ b ∷ c ∷ []) n = elim (nat_lt 48 a && (is_digit a && (is_digit b && is_digit c))) as
-    (λ t. (nat_lt 48 a && (is_digit a && (is_digit b && is_digit c))) ≡ t → cond t (Some (100 * (a - 48) + (10 * (b - 48) + (c - 48)))) None ≡ Some n → IsText (a ∷ b ∷ c ∷ []) n) [
+    (λ t. (nat_lt 48 a && (is_digit a && (is_digit b && is_digit c))) ≡ t
+    → cond t (Some (100 * (a - 48) + (10 * (b - 48) + (c - 48)))) None ≡ Some n → IsText (a ∷ b ∷ c ∷ []) n) [
       | false ↦ λ e h. cc
       | true ↦ λ e h.
           let parts = and_parts (nat_lt 48 a) (is_digit a && (is_digit b && is_digit c)) e in
@@ -118,8 +123,10 @@ number_of_is (a ∷ b ∷ c ∷ []) n = elim (nat_lt 48 a && (is_digit a && (is_
           let middle : b ≡ 48 + (b - 48) = omega arith in
           let last : c ≡ 48 + (c - 48) = omega arith in (
             omega arith,
-            ap (λ (x : ℕ). x ∷ b ∷ c ∷ []) byte ∙ ap (λ (x : ℕ). (48 + (a - 48)) ∷ x ∷ c ∷ []) middle ∙ ap (λ (x : ℕ). (48 + (a - 48)) ∷ (48 + (b - 48)) ∷ x ∷ []) last
-                ∙ sym (decimal-three (a - 48) (b - 48) (c - 48) (omega arith) (omega arith) (omega arith) (omega arith)) ∙ ap (λ (x : ℕ). decimal x) value,
+            ap (λ (x : ℕ). x ∷ b ∷ c ∷ []) byte
+                ∙ ap (λ (x : ℕ). (48 + (a - 48)) ∷ x ∷ c ∷ []) middle ∙ ap (λ (x : ℕ). (48 + (a - 48)) ∷ (48 + (b - 48)) ∷ x ∷ []) last
+                ∙ sym (decimal-three (a - 48) (b - 48) (c - 48) (omega arith) (omega arith) (omega arith) (omega arith))
+                ∙ ap (λ (x : ℕ). decimal x) value,
           )
     ] refl
 number_of_is (a ∷ b ∷ c ∷ d ∷ more) n = λ h. cc

@@ -28,7 +28,8 @@ pub decimal-missing : (c n : ℕ) (t rest : List ℕ) → avoids c t ≡ true �
 decimal-missing c n t rest a e = avoids-not c (decimal n) rest (ap (λ (x : List ℕ). avoids c x) (sym e) ∙ a)
 
 -- the digits before a byte
-pub decimal-before : (c n : ℕ) (t l r rest : List ℕ) → is_digit c ≡ false → t ≡ l ++ c ∷ r → avoids c l ≡ true → n < 1000 → t ≡ decimal n ++ c ∷ rest → (l ≡ decimal n) × (r ≡ rest)
+pub decimal-before : (c n : ℕ) (t l r rest : List ℕ) → is_digit c ≡ false → t ≡ l ++ c ∷ r → avoids c l ≡ true → n < 1000
+    → t ≡ decimal n ++ c ∷ rest → (l ≡ decimal n) × (r ≡ rest)
 decimal-before c n t l r rest no_digit e a h g =
     split-same c l (decimal n) r rest a (avoids-decimal c n (IsNoDigit-is_digit c no_digit) h) (sym e ∙ g)
 
@@ -36,11 +37,13 @@ pub number-same : (m n : ℕ) → m < 1000 → n < 1000 → decimal m ≡ decima
 number-same m n h g e = decimal_injective m n (omega arith) (omega arith) e
 
 -- the number before a byte
-pub number_before-same : (c m n : ℕ) (t r rest : List ℕ) → is_digit c ≡ false → t ≡ decimal m ++ c ∷ r → m < 1000 → n < 1000 → t ≡ decimal n ++ c ∷ rest → (m ≡ n) × (r ≡ rest)
+pub number_before-same : (c m n : ℕ) (t r rest : List ℕ) → is_digit c ≡ false → t ≡ decimal m ++ c ∷ r → m < 1000 → n < 1000
+    → t ≡ decimal n ++ c ∷ rest → (m ≡ n) × (r ≡ rest)
 number_before-same c m n t r rest no_digit e h g same = decimal-same c m n r rest (IsNoDigit-is_digit c no_digit) h g (sym e ∙ same)
 
 -- a syllable without a `^`
-pub syllable-plain : (t : List ℕ) (s : Syllable) → avoids 94 t ≡ true → IsWritten s → t ≡ decimal s.generator ++ exponent_text s.exponent → t ≡ decimal s.generator
+pub syllable-plain : (t : List ℕ) (s : Syllable) → avoids 94 t ≡ true → IsWritten s → t ≡ decimal s.generator ++ exponent_text s.exponent
+    → t ≡ decimal s.generator
 syllable-plain t s a w e = plain s.exponent w.1 e where
   plain : (x : ℕ) → 1 ≤ x → t ≡ decimal s.generator ++ exponent_text x → t ≡ decimal s.generator
   plain zero h e = absurd (omega arith)
@@ -48,7 +51,8 @@ syllable-plain t s a w e = plain s.exponent w.1 e where
   plain (suc (suc x)) h e = absurd (decimal-missing 94 s.generator t (decimal (suc (suc x))) a e)
 
 -- a syllable with one
-pub syllable-power : (t l r : List ℕ) (s : Syllable) → t ≡ l ++ 94 ∷ r → avoids 94 l ≡ true → IsWritten s → t ≡ decimal s.generator ++ exponent_text s.exponent
+pub syllable-power : (t l r : List ℕ) (s : Syllable) → t ≡ l ++ 94 ∷ r → avoids 94 l ≡ true → IsWritten s
+    → t ≡ decimal s.generator ++ exponent_text s.exponent
     → (l ≡ decimal s.generator) × (r ≡ decimal s.exponent) × (2 ≤ s.exponent)
 syllable-power t l r s cut a w e = power s.exponent w.1 e where
   power : (x : ℕ) → 1 ≤ x → t ≡ decimal s.generator ++ exponent_text x → (l ≡ decimal s.generator) × (r ≡ decimal x) × (2 ≤ x)
@@ -57,5 +61,7 @@ syllable-power t l r s cut a w e = power s.exponent w.1 e where
       let whole : l ++ 94 ∷ r ≡ decimal s.generator = sym cut ∙ e ∙ append-nil (decimal s.generator) in
       absurd (avoids-not 94 l r (ap (λ (x : List ℕ). avoids 94 x) whole ∙ avoids-decimal 94 s.generator (λ d n i. omega arith) w.0))
   power (suc (suc x)) h e =
-      let parts = split-same 94 l (decimal s.generator) r (decimal (suc (suc x))) a (avoids-decimal 94 s.generator (λ d n i. omega arith) w.0) (sym cut ∙ e) in
+      let parts =
+      split-same 94 l (decimal s.generator) r (decimal (suc (suc x))) a (avoids-decimal 94 s.generator (λ d n i. omega arith) w.0)
+      (sym cut ∙ e) in
       (parts.0, parts.1, omega arith)

@@ -13,7 +13,8 @@ pub AreExponents-syllables_of : (k : ℕ) (e : List ℕ) → AreExponents (sylla
 AreExponents-syllables_of k [] = All-nil (λ (s : Syllable). 1 ≤ s.exponent)
 AreExponents-syllables_of k (zero ∷ es) = AreExponents-syllables_of (suc k) es
 AreExponents-syllables_of k (suc x ∷ es) =
-    All-cons (λ (s : Syllable). 1 ≤ s.exponent) (syllable (suc k) (suc x)) (syllables_of (suc k) es) (omega arith) (AreExponents-syllables_of (suc k) es)
+    All-cons (λ (s : Syllable). 1 ≤ s.exponent) (syllable (suc k) (suc x)) (syllables_of (suc k) es) (omega arith)
+    (AreExponents-syllables_of (suc k) es)
 
 pub AreExponents-word : (w : List Syllable) (k : ℕ) (e : List ℕ) → w ≡ syllables_of k e → AreExponents w
 AreExponents-word w k e is = subst AreExponents (sym is) (AreExponents-syllables_of k e)

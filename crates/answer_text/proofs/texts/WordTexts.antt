@@ -1,5 +1,6 @@
 -- Words with equal texts are equal, and so are lists of exponents whose words have equal texts.
-use Rattle.std.proofs.Common.{◌≡◌, ◌≢◌, ◌<◌, ◌≤◌, ◌+◌, ℕ, zero, suc, true, List, [], ◌∷◌, ◌++◌, length, drop, decimal, refl, ap, ap₂, sym, ◌∙◌, arith, append_assoc}
+use Rattle.std.proofs.Common.{◌≡◌, ◌≢◌, ◌<◌, ◌≤◌, ◌+◌, ℕ, zero, suc, true, List, [], ◌∷◌, ◌++◌, length, drop, decimal, refl, ap, ap₂, sym}
+use Rattle.std.proofs.Common.{◌∙◌, arith, append_assoc}
 use Rattle.std.specs.Prelude.{codes}
 use Rattle.pq_base.specs.Table.{AllBelow}
 use Rattle.pc_presentation.specs.declared.syllable.Syllable.{Syllable}
@@ -39,7 +40,8 @@ pub syllable_text-same : (s t : Syllable) → IsWritten s → IsWritten t → sy
 syllable_text-same s t a b h =
     let low : s.exponent < 1000 = omega (arith, a.2) in
     let high : t.exponent < 1000 = omega (arith, b.2) in
-    let ended : (decimal s.generator ++ exponent_text s.exponent) ++ 94 ∷ [] ≡ (decimal t.generator ++ exponent_text t.exponent) ++ 94 ∷ [] =
+    let ended : (decimal s.generator ++ exponent_text s.exponent) ++ 94 ∷ []
+    ≡ (decimal t.generator ++ exponent_text t.exponent) ++ 94 ∷ [] =
     ap (λ (x : List ℕ). drop 1 x ++ 94 ∷ []) h in
     let parts = decimal-same 94 s.generator t.generator (after_power s.exponent) (after_power t.exponent) (λ n l i. omega arith) a.0 b.0
     (sym (syllable_text-ended s.generator s.exponent) ∙ ended ∙ syllable_text-ended t.generator t.exponent) in
@@ -61,7 +63,8 @@ avoids-generator c g o h = avoids-cons c 97 (decimal g) o.no_letter (avoids-deci
 
 pub avoids-syllable : (c : ℕ) (s : Syllable) → IsOutside c → IsWritten s → avoids c (syllable_text s) ≡ true
 avoids-syllable c s o a =
-    avoids-append c (97 ∷ decimal s.generator) (exponent_text s.exponent) (avoids-generator c s.generator o a.0) (avoids-exponent c s.exponent o a.1 (omega (arith, a.2)))
+    avoids-append c (97 ∷ decimal s.generator) (exponent_text s.exponent) (avoids-generator c s.generator o a.0)
+    (avoids-exponent c s.exponent o a.1 (omega (arith, a.2)))
 
 pub newline : IsOutside 10
 newline = record { no_digit = λ d l e. omega arith; no_letter = λ e. omega arith; no_power = λ e. omega arith }
@@ -92,8 +95,11 @@ after_star-same [] (t ∷ w) a b h = cc
 after_star-same (s ∷ v) [] a b h = cc
 after_star-same (s ∷ v) (t ∷ w) a b h =
     let split : syllable_text s ++ 42 ∷ after_star v ≡ syllable_text t ++ 42 ∷ after_star w =
-    ap (λ (x : List ℕ). syllable_text s ++ x) (sym (further_text-ended v)) ∙ h ∙ ap (λ (x : List ℕ). syllable_text t ++ x) (further_text-ended w) in
-    let parts = split-same 42 (syllable_text s) (syllable_text t) (after_star v) (after_star w) (avoids-syllable 42 s star a.0) (avoids-syllable 42 t star b.0) split in
+    ap (λ (x : List ℕ). syllable_text s ++ x) (sym (further_text-ended v))
+    ∙ h ∙ ap (λ (x : List ℕ). syllable_text t ++ x) (further_text-ended w) in
+    let parts =
+    split-same 42 (syllable_text s) (syllable_text t) (after_star v) (after_star w) (avoids-syllable 42 s star a.0)
+    (avoids-syllable 42 t star b.0) split in
     ap₂ (λ (z : Syllable) (zs : List Syllable). z ∷ zs) (syllable_text-same s t a.0 b.0 parts.0) (after_star-same v w a.1 b.1 parts.1)
 
 pub word_text-same : (v w : List Syllable) → AreWritten v → AreWritten w → word_text v ≡ word_text w → v ≡ w
@@ -102,7 +108,8 @@ word_text-same [] (t ∷ w) a b h = absurd (first-apart 49 97 _ _ refl h)
 word_text-same (s ∷ v) [] a b h = absurd (first-apart 97 49 _ _ refl h)
 word_text-same (s ∷ v) (t ∷ w) a b h =
     after_star-same (s ∷ v) (t ∷ w) a b
-    (sym (append_assoc (syllable_text s) (further_text v) (42 ∷ [])) ∙ ap (λ (x : List ℕ). x ++ 42 ∷ []) h ∙ append_assoc (syllable_text t) (further_text w) (42 ∷ []))
+    (sym (append_assoc (syllable_text s) (further_text v) (42 ∷ []))
+    ∙ ap (λ (x : List ℕ). x ++ 42 ∷ []) h ∙ append_assoc (syllable_text t) (further_text w) (42 ∷ []))
 
 pub AreWritten-syllables_of : (p k : ℕ) (e : List ℕ) → p ≤ 100 → k + length e < 1000 → AllBelow p e → AreWritten (syllables_of k e)
 AreWritten-syllables_of p k [] small h b = tt

@@ -24,7 +24,8 @@ module _ (B : Echelon) (is : IsBasis B) where
 
   -- the row of a tail, counted from 1, as a word
   pub kept_row-word : (t : ℕ) → 1 ≤ t → t ≤ B.width
-      → AreSyllables B.prime (length (kept_columns B.width B.rows)) 0 (syllables_of 0 (get_or (kept_rows B.prime B.width B.rows) (t - 1) []))
+      → AreSyllables B.prime (length (kept_columns B.width B.rows)) 0
+      (syllables_of 0 (get_or (kept_rows B.prime B.width B.rows) (t - 1) []))
   kept_row-word t first last =
       let row = kept_row-fits p B.width two B.rows is.reduced t first last in
       let count = row.count in
@@ -35,11 +36,13 @@ module _ (B : Echelon) (is : IsBasis B) where
       ≡ get_or (kept_rows B.prime B.width B.rows) (t - 1) []
   kept_row-spread t first last =
       let x : List ℕ = get_or (kept_rows B.prime B.width B.rows) (t - 1) [] in
-      ap (λ (n : ℕ). spread n 0 (syllables_of 0 x)) (sym (kept_row-fits p B.width two B.rows is.reduced t first last).count) ∙ spread-syllables_of 0 x
+      ap (λ (n : ℕ). spread n 0 (syllables_of 0 x)) (sym (kept_row-fits p B.width two B.rows is.reduced t first last).count)
+      ∙ spread-syllables_of 0 x
 
   -- one tail more
   pub kept_rows-more : (t : ℕ) → t + 1 ≤ B.width
-      → take t (kept_rows B.prime B.width B.rows) ++ get_or (kept_rows B.prime B.width B.rows) (t + 1 - 1) [] ∷ [] ≡ take (t + 1) (kept_rows B.prime B.width B.rows)
+      → take t (kept_rows B.prime B.width B.rows) ++ get_or (kept_rows B.prime B.width B.rows) (t + 1 - 1) [] ∷ []
+      ≡ take (t + 1) (kept_rows B.prime B.width B.rows)
   kept_rows-more t last =
       let rows : List (List ℕ) = kept_rows B.prime B.width B.rows in
       let count = length-kept_rows B.prime B.width B.rows in
@@ -57,5 +60,6 @@ module _ (B : Echelon) (is : IsBasis B) where
         → AreCombinationsOf C (kept_combinations B.prime B.width B.rows)
     kept_combinations-of limit = record { prime = prime; count = length-kept_rows B.prime B.width B.rows ∙ width; limit = limit }
 
-    pub kept_combinations-same : kept_combinations B.prime B.width B.rows ≡ kept_combinations C.answer.presentation.prime (length C.sources) B.rows
+    pub kept_combinations-same : kept_combinations B.prime B.width B.rows
+        ≡ kept_combinations C.answer.presentation.prime (length C.sources) B.rows
     kept_combinations-same = ap₂ (λ (q w : ℕ). kept_combinations q w B.rows) prime width

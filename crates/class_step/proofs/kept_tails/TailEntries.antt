@@ -1,6 +1,7 @@
 -- What becomes of one tail modulo a reduced basis: one with a pivot becomes minus the other entries of its basis row, and one
 -- without becomes itself.
-use Rattle.std.proofs.Common.{◌≡◌, ◌≢◌, ℕ, zero, suc, ◌+◌, ◌-◌, ◌*◌, ◌%◌, ◌<◌, ◌≤◌, Bool, cond, eqb, List, [], ◌∷◌, length, map, get_or, inl, inr, refl, ap, ap₂, sym, ◌∙◌, subst, arith, eq-eqb, ne_eqb, mod-eq_of_lt, zero-add}
+use Rattle.std.proofs.Common.{◌≡◌, ◌≢◌, ℕ, zero, suc, ◌+◌, ◌-◌, ◌*◌, ◌%◌, ◌<◌, ◌≤◌, Bool, cond, eqb, List, [], ◌∷◌, length, map, get_or}
+use Rattle.std.proofs.Common.{inl, inr, refl, ap, ap₂, sym, ◌∙◌, subst, arith, eq-eqb, ne_eqb, mod-eq_of_lt, zero-add}
 use Rattle.std.specs.Prelude.{All}
 use Rattle.std.proofs.Math.Nat.{mul-suc, suc-mul, mul-add-mod_self_left}
 use Rattle.std.proofs.lemmas.Bool.{cases_eq}
@@ -11,7 +12,8 @@ use Rattle.fp_rows.specs.Row.{at_column, IsColumn}
 use Rattle.fp_rows.proofs.EntryLaws.{at_column-below}
 use Rattle.fp_echelon.specs.Reduced.{BasisRow, rows_of, IsPivot, at_pivot, IsReduced}
 use Rattle.fp_echelon.specs.Reduction.{negative, cleared, reduce_by}
-use Rattle.fp_echelon.proofs.ReductionLaws.{at_column-add_scaled, negative-zero, IsRow-cleared, at_column-cleared, at_column-cleared_other, InSpan-cleared}
+use Rattle.fp_echelon.proofs.ReductionLaws.{at_column-add_scaled, negative-zero, IsRow-cleared, at_column-cleared, at_column-cleared_other}
+use Rattle.fp_echelon.proofs.ReductionLaws.{InSpan-cleared}
 use Rattle.fp_echelon.proofs.PivotLaws.{representative_is}
 use Rattle.fp_echelon.proofs.UniqueBasis.{found, ZeroAtPivots-from}
 use Rattle.fp_echelon.proofs.ReduceMap.{reduce_by-fixed}
@@ -42,9 +44,11 @@ taken_away : (p r : ℕ) → 1 < p → r < p → (0 + negative p 1 * r) % p ≡ 
 taken_away zero r h l = absurd (omega arith)
 taken_away (suc q) r h l =
     let less : suc q - 1 ≡ q = omega arith in
-    ap (λ (n : ℕ). n % suc q) (zero-add (negative (suc q) 1 * r)) ∙ mul-mod_first (suc q - 1) r (suc q) ∙ ap (λ (n : ℕ). (n * r) % suc q) less ∙ minus_times q r (omega arith)
+    ap (λ (n : ℕ). n % suc q) (zero-add (negative (suc q) 1 * r))
+    ∙ mul-mod_first (suc q - 1) r (suc q) ∙ ap (λ (n : ℕ). (n * r) % suc q) less ∙ minus_times q r (omega arith)
 
-map_agree : (f g : ℕ → ℕ) (P : ℕ → Type 0) (xs : List ℕ) → ((x : ℕ) → P x → f x ≡ g x) → ((k : ℕ) → k < length xs → P (get_or xs k 0)) → map f xs ≡ map g xs
+map_agree : (f g : ℕ → ℕ) (P : ℕ → Type 0) (xs : List ℕ) → ((x : ℕ) → P x → f x ≡ g x) → ((k : ℕ) → k < length xs → P (get_or xs k 0))
+    → map f xs ≡ map g xs
 map_agree f g P [] same all = refl
 map_agree f g P (x ∷ xs) same all =
     ap₂ (λ (n : ℕ) (l : List ℕ). n ∷ l) (same x (all 0 (let l : 0 < length (x ∷ xs) = omega arith in l)))
@@ -88,14 +92,16 @@ module _ (p width : ℕ) (some : 1 < p) (bs : List BasisRow) (reduced : IsReduce
             span = InSpan-cleared p width some row x row-row unit-row t (rows_of bs) f.span;
           }))
 
-      pivot_entry : (c : ℕ) → IsKept width bs c → at_column (reduce_by p bs (unit_row width t)) c ≡ negative p (at_column (at_pivot t bs).row c)
+      pivot_entry : (c : ℕ) → IsKept width bs c
+          → at_column (reduce_by p bs (unit_row width t)) c ≡ negative p (at_column (at_pivot t bs).row c)
       pivot_entry c k =
           let x : List ℕ = unit_row width t in
           let other : t ≢ c = λ e. k.no_pivot (subst (λ (n : ℕ). IsPivot n bs) e pivot) in
           let r : ℕ = at_column (at_pivot t bs).row c in
           ap (λ (l : List ℕ). at_column l c) reduce-unit
           ∙ at_column-add_scaled p (negative p (at_column x t)) x row c (omega arith) (unit-row.count ∙ sym row-row.count)
-          ∙ ap₂ (λ (a b : ℕ). (a + negative p b * r) % p) (at_column-unit_row_other width t c k.first other) (at_column-unit_row width t first last)
+          ∙ ap₂ (λ (a b : ℕ). (a + negative p b * r) % p) (at_column-unit_row_other width t c k.first other)
+          (at_column-unit_row width t first last)
           ∙ taken_away p r some (at_column-below p row c (omega arith) row-row.below)
 
       -- a tail with a pivot becomes minus the other entries of its basis row
@@ -103,7 +109,8 @@ module _ (p width : ℕ) (some : 1 < p) (bs : List BasisRow) (reduced : IsReduce
           ≡ map (λ c. negative p (at_column (at_pivot t bs).row c)) (kept_columns width bs)
       kept_row-pivot =
           get_or-kept_rows p width bs t first last
-          ∙ map_agree (at_column (reduce_by p bs (unit_row width t))) (λ c. negative p (at_column (at_pivot t bs).row c)) (IsKept width bs) K pivot_entry
+          ∙ map_agree (at_column (reduce_by p bs (unit_row width t))) (λ c. negative p (at_column (at_pivot t bs).row c))
+          (IsKept width bs) K pivot_entry
           (λ k l. all_kept width bs k 0 l)
 
       -- whose columns they are
@@ -133,5 +140,7 @@ module _ (p width : ℕ) (some : 1 < p) (bs : List BasisRow) (reduced : IsReduce
           get_or-kept_rows p width bs t first last
           ∙ ap (entries_at K) (reduce_by-fixed p width some bs (unit_row width t) reduced unit-row
           (ZeroAtPivots-from (unit_row width t) bs (λ d h.
-          at_column-unit_row_other width t d (pivot-first p width some bs reduced d h) (λ e. none (subst (λ (n : ℕ). IsPivot n bs) (sym e) h)))))
-          ∙ map_agree (at_column (unit_row width t)) (λ c. cond (eqb t c) 1 0) (IsKept width bs) K plain_entry (λ k l. all_kept width bs k 0 l)
+          at_column-unit_row_other width t d (pivot-first p width some bs reduced d h)
+          (λ e. none (subst (λ (n : ℕ). IsPivot n bs) (sym e) h)))))
+          ∙ map_agree (at_column (unit_row width t)) (λ c. cond (eqb t c) 1 0) (IsKept width bs) K plain_entry
+          (λ k l. all_kept width bs k 0 l)

@@ -9,7 +9,8 @@ use Rattle.pc_presentation.specs.Syllable.{syllables_of}
 use Rattle.cover_quotient.specs.Kept.{kept_columns, kept_rows}
 use Rattle.class_step.proofs.kept_tails.TailEntries.{kept_row-pivot, kept_row-no_pivot, kept-columns}
 
-module _ (B : Echelon) (is : IsBasis B) (kept : List ℕ) (are : kept ≡ kept_columns B.width B.rows) (t : ℕ) (first : 1 ≤ t) (last : t ≤ B.width) where
+module _ (B : Echelon) (is : IsBasis B) (kept : List ℕ) (are : kept ≡ kept_columns B.width B.rows) (t : ℕ) (first : 1 ≤ t)
+    (last : t ≤ B.width) where
   two : 1 < B.prime
   two = let h = is.prime in omega arith
 

@@ -25,7 +25,8 @@ use Rattle.cover_quotient.proofs.kept_tails.KeptRows.{kept_rows-are_rows, carrie
 use Rattle.cover_quotient.proofs.canonical_answers.NextObeys.{next-obeys}
 use Rattle.cover_quotient.proofs.spans.TrivialRows.{trivial_rows_are_in_the_span}
 
-module _ (C : CoverOf) (bs : List BasisRow) (push : State → ℕ → State) (holds : HoldsOverlaps C bs push) (canonical : IsCanonical C.answer) where
+module _ (C : CoverOf) (bs : List BasisRow) (push : State → ℕ → State) (holds : HoldsOverlaps C bs push)
+    (canonical : IsCanonical C.answer) where
   basis : IsBasisOver C bs
   basis = holds.over
 
@@ -50,7 +51,8 @@ module _ (C : CoverOf) (bs : List BasisRow) (push : State → ℕ → State) (ho
       let x : List ℕ = commutator_row (rowed (rowed_cover C)) j i in
       let normal = units.rowed.presentation.commutator_rows j i l b in
       let spanned =
-      trivial_rows_are_in_the_span (rowed (rowed_cover C)) push (rows_of bs) units.rowed.presentation basis.prime holds.meaning holds.consistent
+      trivial_rows_are_in_the_span (rowed (rowed_cover C)) push (rows_of bs) units.rowed.presentation basis.prime holds.meaning
+      holds.consistent
       (AreRows-reduced p q bs basis.reduced) holds.overlaps x normal (heavy-trivial (rowed_cover C) units.rowed canonical j i l b above) in
       row_at-carried (rowed_cover C) units.rowed (omega arith) s (kept_rows p q bs) (kept_rows-are_rows p q big bs basis.reduced)
       (commutator (suc j) (suc i)) (l, b)

@@ -11,7 +11,8 @@ use Rattle.cover_quotient.specs.CanonicalAnswerLaws.{NextAnswersTakeTurns}
 use Rattle.cover_quotient.specs.Kept.{kept_columns}
 use Rattle.cover_quotient.specs.NextAnswer.{kept_sources, cover_modulo, eliminated}
 use Rattle.cover_quotient.specs.Defining.{KeptMayDefine}
-use Rattle.cover_quotient.proofs.next_answers.AnswerLaws.{quotients_are_rowed_answers, next_answers_are_answers, next_answers_keep_the_classes_before}
+use Rattle.cover_quotient.proofs.next_answers.AnswerLaws.{quotients_are_rowed_answers, next_answers_are_answers}
+use Rattle.cover_quotient.proofs.next_answers.AnswerLaws.{next_answers_keep_the_classes_before}
 use Rattle.cover_quotient.proofs.kept_tails.EliminatedAnswers.{kept-defining}
 use Rattle.pq_base.proofs.Restrictions.{restrictions_are_whole}
 use Rattle.cover_quotient.proofs.canonical_answers.EarlierTurns.{wanted-sources, turns-kept}
@@ -38,13 +39,16 @@ module _ (C : CoverOf) (bs : List BasisRow) (basis : IsBasisOver C bs) (may : Ke
   rank-whole : rank_up_to N (suc (class_of A)) ≡ A.presentation.rank + length (kept_columns (length C.sources) bs)
   rank-whole =
       let class = next.class in
-      ap (λ (B : Answer). B.presentation.rank) (restrictions_are_whole (eliminated C bs) next.answer (suc (class_of C.answer)) (omega arith))
+      ap (λ (B : Answer). B.presentation.rank)
+      (restrictions_are_whole (eliminated C bs) next.answer (suc (class_of C.answer)) (omega arith))
 
   module _ (turns : (j : ℕ) → j < class_of C.answer → AreMet C.answer j 0 (want_order (up_to_class C.answer j) j)) where
     before : (j : ℕ) → j < class_of A → AreMet N j 0 (want_order (up_to_class N j) j)
     before j l =
-        subst (λ (B : Answer). AreMet (eliminated C bs) j 0 (want_order B j)) (sym (next_answers_keep_the_classes_before C.answer (eliminated C bs) next j (omega arith)))
-        (turns-kept (cover_modulo C bs) (quotients_are_rowed_answers C bs basis) (kept_sources C bs) j (rank-before j (omega arith)) (rank-before (suc j) l) 0
+        subst (λ (B : Answer). AreMet (eliminated C bs) j 0 (want_order B j))
+        (sym (next_answers_keep_the_classes_before C.answer (eliminated C bs) next j (omega arith)))
+        (turns-kept (cover_modulo C bs) (quotients_are_rowed_answers C bs basis) (kept_sources C bs) j (rank-before j (omega arith))
+        (rank-before (suc j) l) 0
         (want_order (up_to_class A j) j) (wanted-sources (up_to_class A j) j) (turns j l))
 
     last : AreMet N (class_of A) 0 (want_order (up_to_class N (class_of A)) (class_of A))
@@ -52,7 +56,8 @@ module _ (C : CoverOf) (bs : List BasisRow) (basis : IsBasisOver C bs) (may : Ke
         subst (λ (B : Answer). AreMet (eliminated C bs) (class_of C.answer) 0 (want_order B (class_of C.answer))) (sym next.restricts)
         (kept-turns C bs basis may rank-last rank-whole)
 
-    pub next-turns : (j : ℕ) → j < class_of (eliminated C bs) → AreMet (eliminated C bs) j 0 (want_order (up_to_class (eliminated C bs) j) j)
+    pub next-turns : (j : ℕ) → j < class_of (eliminated C bs)
+        → AreMet (eliminated C bs) j 0 (want_order (up_to_class (eliminated C bs) j) j)
     next-turns j l = elim (cases_lt j (class_of C.answer)) [
       | inl early ↦ before j early
       | inr late ↦

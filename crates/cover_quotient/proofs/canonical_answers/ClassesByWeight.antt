@@ -1,12 +1,14 @@
 -- An answer that obeys weights has, cut to class k, a presentation of class k: in the next one the generators of weight
 -- k + 1 have relations with empty words, so they are central of order p, and cutting them off leaves class k.
-use Rattle.std.proofs.Common.{◌≡◌, ◌≢◌, ℕ, zero, suc, ◌+◌, ◌-◌, ◌<◌, ◌≤◌, Bool, true, false, leb, ℤ, pos, negsuc, List, [], ◌∷◌, ◌++◌, get_or, length, take, inl, inr, refl, ap, sym, ◌∙◌, ⊎_elim, subst, arith}
+use Rattle.std.proofs.Common.{◌≡◌, ◌≢◌, ℕ, zero, suc, ◌+◌, ◌-◌, ◌<◌, ◌≤◌, Bool, true, false, leb, ℤ, pos, negsuc, List, [], ◌∷◌, ◌++◌}
+use Rattle.std.proofs.Common.{get_or, length, take, inl, inr, refl, ap, sym, ◌∙◌, ⊎_elim, subst, arith}
 use Rattle.std.proofs.lemmas.Bool.{cases_lt, cases_eq, leb-true, leb-false, le-leb, false≢true}
 use Rattle.std.proofs.lemmas.List.{get_or-take, length-take-le}
 use Rattle.std.proofs.Math.ListN.{get_or-map}
 use Rattle.pq_base.specs.SignedWord.{copies, comm, HasLetters}
 use Rattle.pq_base.specs.Table.{AllBelow}
-use Rattle.pq_base.specs.Presentation.{Presentation, IsPresentation, letter, word_from, normal_word, power_side, commutator_side, power_word, commutator_word}
+use Rattle.pq_base.specs.Presentation.{Presentation, IsPresentation, letter, word_from, normal_word, power_side, commutator_side}
+use Rattle.pq_base.specs.Presentation.{power_word, commutator_word}
 use Rattle.pq_base.specs.Joined.{Joined}
 use Rattle.pq_base.specs.Series.{NextWord, InSeries, HasClass}
 use Rattle.pq_base.specs.Series.NextWord.{no_word, then_commutator, then_power}
@@ -15,8 +17,10 @@ use Rattle.pq_base.specs.Answer.Definition.{image, commutator, power}
 use Rattle.pq_base.specs.Canonical.{one_more_where, count_up_to, rank_up_to, first_generators, up_to_class, ObeysWeights}
 use Rattle.pq_base.proofs.words.WordLaws.{copies-nil}
 use Rattle.pq_base.proofs.words.LetterLaws.{HasLetters-letter, HasLetters-word_from, HasLetters-copies}
-use Rattle.pq_base.proofs.words.JoinedLaws.{joined-refl, joined-from_equal, joined-sym, joined-trans, joined-append, joined-copies, comm-joined_nil, commute-from_comm, power-joined, commutator-joined}
-use Rattle.pq_base.proofs.words.CentralWords.{IsCentral, central-nil, central-append, central-joined, central_from_letters, copies-append_joined}
+use Rattle.pq_base.proofs.words.JoinedLaws.{joined-refl, joined-from_equal, joined-sym, joined-trans, joined-append, joined-copies}
+use Rattle.pq_base.proofs.words.JoinedLaws.{comm-joined_nil, commute-from_comm, power-joined, commutator-joined}
+use Rattle.pq_base.proofs.words.CentralWords.{IsCentral, central-nil, central-append, central-joined, central_from_letters}
+use Rattle.pq_base.proofs.words.CentralWords.{copies-append_joined}
 use Rattle.pq_base.proofs.SeriesLaws.{series-letters}
 use Rattle.pc_presentation.specs.CutLaws.{cut_word}
 use Rattle.cover_quotient.specs.CanonicalAnswerLaws.{WeightsGiveTheClass}
@@ -217,10 +221,12 @@ module _ (A : Answer) (is : IsAnswer A) where
     last-commutators l j a b c =
         let fits = rank-within (suc k) in
         ap (word_from (suc l)) (commutator_side-cut A.presentation is.presentation (rank_up_to A (suc k)) fits l j b)
-        ∙ zero-side l (commutator_side P l j) b (is.presentation.commutator_sides l j (omega arith) c).count (λ i r. commutator-entry l j i a b c r)
+        ∙ zero-side l (commutator_side P l j) b (is.presentation.commutator_sides l j (omega arith) c).count
+        (λ i r. commutator-entry l j i a b c r)
 
     -- one class more
-    pub class-step : 1 < A.presentation.prime → HasClass (up_to_class A k).presentation k → HasClass (up_to_class A (suc k)).presentation (suc k)
+    pub class-step : 1 < A.presentation.prime → HasClass (up_to_class A k).presentation k
+        → HasClass (up_to_class A (suc k)).presentation (suc k)
     class-step big class =
         let twice : up_to_class (up_to_class A (suc k)) k ≡ up_to_class A k = restrictions-compose A is.weights k (suc k) (omega arith) in
         let rank : rank_up_to (up_to_class A (suc k)) k ≡ rank_up_to A k = ap (λ (C : Answer). C.presentation.rank) twice in

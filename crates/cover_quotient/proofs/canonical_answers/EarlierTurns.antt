@@ -1,10 +1,12 @@
 -- The turns of the next answer at the classes before its last are those of the answer.
-use Rattle.std.proofs.Common.{◌≡◌, ℕ, zero, suc, ◌+◌, ◌-◌, ◌<◌, ◌≤◌, Bool, not, List, [], ◌∷◌, ◌++◌, get_or, length, filter, inl, inr, ap, ap₂, sym, ◌∙◌, arith}
+use Rattle.std.proofs.Common.{◌≡◌, ℕ, zero, suc, ◌+◌, ◌-◌, ◌<◌, ◌≤◌, Bool, not, List, [], ◌∷◌, ◌++◌, get_or, length, filter, inl, inr, ap}
+use Rattle.std.proofs.Common.{ap₂, sym, ◌∙◌, arith}
 use Rattle.std.specs.List.{All}
 use Rattle.std.proofs.lemmas.List.Elements.{All-head, All-tail, All-append, All-filter}
 use Rattle.pq_base.specs.Answer.{Answer, Definition as Source, definition_at}
 use Rattle.pq_base.specs.Answer.Definition.{image, commutator, power}
-use Rattle.pq_base.specs.Canonical.{is_among, all_commutators, all_powers, all_images, is_qualifying, preferred, want_order, rank_up_to, new_count, unit, up_to_class, DefinesNext, DefinesNone, AreMet}
+use Rattle.pq_base.specs.Canonical.{is_among, all_commutators, all_powers, all_images, is_qualifying, preferred, want_order, rank_up_to}
+use Rattle.pq_base.specs.Canonical.{new_count, unit, up_to_class, DefinesNext, DefinesNone, AreMet}
 use Rattle.p_cover.specs.RowedAnswer.{RowedAnswer, IsRowedAnswer}
 use Rattle.p_cover.specs.CoverLaws.{IsSource}
 use Rattle.p_cover.proofs.WantMembers.{all_commutators-sources, all_powers-sources, all_images-sources}
@@ -83,6 +85,12 @@ module _ (Y : RowedAnswer) (is : IsRowedAnswer Y) (sources : List Source) (k : �
       → AreMet (next_answer Y sources) k met ds
   turns-kept met [] all h = h ∙ sym same-count
   turns-kept met (d ∷ ds) all (inl h) =
-      inl (defines-next met d (All-head (IsSource (up_to_class A k)) d ds all) h.0, turns-kept (suc met) ds (All-tail (IsSource (up_to_class A k)) d ds all) h.1)
+      inl (
+        defines-next met d (All-head (IsSource (up_to_class A k)) d ds all) h.0,
+        turns-kept (suc met) ds (All-tail (IsSource (up_to_class A k)) d ds all) h.1,
+      )
   turns-kept met (d ∷ ds) all (inr h) =
-      inr (defines-none met d (All-head (IsSource (up_to_class A k)) d ds all) h.0, turns-kept met ds (All-tail (IsSource (up_to_class A k)) d ds all) h.1)
+      inr (
+        defines-none met d (All-head (IsSource (up_to_class A k)) d ds all) h.0,
+        turns-kept met ds (All-tail (IsSource (up_to_class A k)) d ds all) h.1,
+      )

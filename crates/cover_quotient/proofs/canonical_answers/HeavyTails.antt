@@ -1,14 +1,16 @@
 -- Over an answer that is canonical, a generator of weight w lies in level w - 1 of the flat reading, since its definition has
 -- a generator of weight w - 1. So a commutator of generators whose weights have a sum above the class and one is trivial there,
 -- and its row with it. The answer need not be consistent.
-use Rattle.std.proofs.Common.{◌≡◌, ◌≢◌, ℕ, zero, suc, ◌+◌, ◌-◌, ◌<◌, ◌≤◌, Bool, true, false, ◌&&◌, eqb, ℤ, List, [], ◌∷◌, ◌++◌, get_or, length, replicate, inl, inr, refl, ap, sym, ◌∙◌, ⊎_elim, subst, arith}
+use Rattle.std.proofs.Common.{◌≡◌, ◌≢◌, ℕ, zero, suc, ◌+◌, ◌-◌, ◌<◌, ◌≤◌, Bool, true, false, ◌&&◌, eqb, ℤ, List, [], ◌∷◌, ◌++◌, get_or}
+use Rattle.std.proofs.Common.{length, replicate, inl, inr, refl, ap, sym, ◌∙◌, ⊎_elim, subst, arith}
 use Rattle.std.proofs.lemmas.Bool.{cases_lt, cases_eq, eqb-true, false≢true}
 use Rattle.std.proofs.lemmas.List.{append-nil}
 use Rattle.pq_base.specs.SignedWord.{copies, comm, HasLetters}
 use Rattle.pq_base.specs.Presentation.{Presentation, IsPresentation, letter, word_from, commutator_side, power_word, commutator_word}
 use Rattle.pq_base.specs.Joined.{Joined}
 use Rattle.pq_base.specs.Series.{InSeries, HasClass}
-use Rattle.pq_base.specs.Answer.{Answer, Definition as Source, IsAnswer, AreWeights, HasDefinition, last_or_zero, class_of, weight_at, definition_at}
+use Rattle.pq_base.specs.Answer.{Answer, Definition as Source, IsAnswer, AreWeights, HasDefinition, last_or_zero, class_of, weight_at}
+use Rattle.pq_base.specs.Answer.{definition_at}
 use Rattle.pq_base.specs.Answer.Definition.{image, commutator, power}
 use Rattle.pq_base.specs.Canonical.{rank_up_to, new_count, want_order, up_to_class, is_qualifying, IsAllowed, AreMet, IsCanonical}
 use Rattle.pq_base.proofs.words.WordLaws.{word_from-zeros}
@@ -99,10 +101,12 @@ module _ (Y : RowedAnswer) (is : IsRowedAnswer Y) (canonical : IsCanonical Y.ans
       let first : s < l = h.2 in
       let weight : weight_at A s ≡ suc k =
       eqb-true (weight_at A s) (suc k) (both-true (eqb (weight_at A s) (suc k)) (eqb (weight_at A t) 1) q).0 in
-      let side : commutator_word Y.answer.presentation s t ++ word_from Y.answer.presentation.rank (commutator_row (rowed Y) s t) ≡ letter l =
+      let side : commutator_word Y.answer.presentation s t ++ word_from Y.answer.presentation.rank (commutator_row (rowed Y) s t)
+      ≡ letter l =
       zero_row (commutator_word P s t) (commutator_row Z s t) r ∙ h.3 in
       let relation : Joined F (comm (letter s) (letter t)) (letter l) =
-      subst (λ (u : List ℤ). Joined F (comm (letter s) (letter t)) u) side (commutator-with_row Z is.presentation s t (omega arith) below) in
+      subst (λ (u : List ℤ). Joined F (comm (letter s) (letter t)) u) side
+      (commutator-with_row Z is.presentation s t (omega arith) below) in
       series-joined F k (comm (letter s) (letter t)) (letter l) relation (letter-in l b)
       (series-comm F k (letter s) (letter t) (before s first weight) (letter-in t (omega arith)))
   defined-level l k (power zero) b before h r q = absurd h
@@ -113,7 +117,8 @@ module _ (Y : RowedAnswer) (is : IsRowedAnswer Y) (canonical : IsCanonical Y.ans
       zero_row (power_word P s) (power_row Z s) r ∙ h.2 in
       let relation : Joined F (copies (letter s) P.prime) (letter l) =
       subst (λ (u : List ℤ). Joined F (copies (letter s) P.prime) u) side (power-with_row Z is.presentation s (omega arith)) in
-      series-joined F k (copies (letter s) P.prime) (letter l) relation (letter-in l b) (series-power F k (letter s) (before s first weight))
+      series-joined F k (copies (letter s) P.prime) (letter l) relation (letter-in l b)
+      (series-power F k (letter s) (before s first weight))
 
   -- a generator of weight k + 1 is in level k
   level-within : (more l k : ℕ) → l < more → l < n → weight_at A l ≡ suc k → InSeries F k (letter l)
@@ -151,7 +156,8 @@ module _ (Y : RowedAnswer) (is : IsRowedAnswer Y) (canonical : IsCanonical Y.ans
     flat-class =
         let whole = restrictions_are_whole A is.answer (class_of A) (omega arith) in
         classes_grow_by_one_with_rows Z is.presentation (class_of A)
-        (subst (λ (B : Answer). HasClass B.presentation (class_of Y.answer)) whole (weights-class A is.answer canonical.weights (class_of A)))
+        (subst (λ (B : Answer). HasClass B.presentation (class_of Y.answer)) whole
+        (weights-class A is.answer canonical.weights (class_of A)))
 
     pub heavy-trivial : Joined (flat (rowed Y)) (word_from Y.answer.presentation.rank (commutator_row (rowed Y) j i)) []
     heavy-trivial =
@@ -161,12 +167,14 @@ module _ (Y : RowedAnswer) (is : IsRowedAnswer Y) (canonical : IsCanonical Y.ans
         let least_j = weights-least 1 Y.answer.weights is.answer.weights j (omega arith) in
         let least_i = weights-least 1 Y.answer.weights is.answer.weights i (omega arith) in
         let level : InSeries F (a + b + 1) (comm (letter j) (letter i)) =
-        commutators_of_levels F flat-is a b (letter j) (letter i) (letter-level j a last (omega arith)) (letter-level i b (omega arith) (omega arith)) in
+        commutators_of_levels F flat-is a b (letter j) (letter i) (letter-level j a last (omega arith))
+        (letter-level i b (omega arith) (omega arith)) in
         let over : ℕ = (a + b + 1) - suc (class_of Y.answer) in
         let same : a + b + 1 ≡ suc (class_of Y.answer) + over = omega arith in
         joined-trans (joined-sym relation)
         (flat-class (comm (letter j) (letter i))
-        (series-fall F (suc (class_of A)) over (comm (letter j) (letter i)) (subst (λ (k : ℕ). InSeries F k (comm (letter j) (letter i))) same level)))
+        (series-fall F (suc (class_of A)) over (comm (letter j) (letter i))
+        (subst (λ (k : ℕ). InSeries F k (comm (letter j) (letter i))) same level)))
       where
         flat-is : IsPresentation F
         flat-is =

@@ -1,7 +1,8 @@
 -- The turns of the next answer at its last class: along the tails in order a kept one defines the next generator, and its
 -- new part is this generator alone; one with a pivot defines none, and its new part has only kept tails before it. A source
 -- that the cover leaves out defines none, and has no new part.
-use Rattle.std.proofs.Common.{◌≡◌, ◌≢◌, ℕ, zero, suc, ◌+◌, ◌-◌, ◌<◌, ◌≤◌, Bool, cond, ne_eqb, Option, None, Some, List, [], ◌∷◌, get_or, length, drop, inl, inr, ⊎_elim, refl, ap, ap₂, sym, ◌∙◌, subst, arith}
+use Rattle.std.proofs.Common.{◌≡◌, ◌≢◌, ℕ, zero, suc, ◌+◌, ◌-◌, ◌<◌, ◌≤◌, Bool, cond, ne_eqb, Option, None, Some, List, [], ◌∷◌, get_or}
+use Rattle.std.proofs.Common.{length, drop, inl, inr, ⊎_elim, refl, ap, ap₂, sym, ◌∙◌, subst, arith}
 use Rattle.std.specs.List.{AllPairs}
 use Rattle.std.proofs.lemmas.Bool.{cases_lt, cases_eq}
 use Rattle.std.proofs.lemmas.List.{get_or_past, length-map, get_or-map}
@@ -66,7 +67,8 @@ rest-past (x ∷ xs) (suc t) l = rest-past xs t (omega arith)
 
 module _ (C : CoverOf) (bs : List BasisRow) (basis : IsBasisOver C bs) (may : KeptMayDefine C bs)
     (start : rank_up_to (eliminated C bs) (class_of C.answer) ≡ C.answer.presentation.rank)
-    (stop : rank_up_to (eliminated C bs) (suc (class_of C.answer)) ≡ C.answer.presentation.rank + length (kept_columns (length C.sources) bs)) where
+    (stop : rank_up_to (eliminated C bs) (suc (class_of C.answer))
+    ≡ C.answer.presentation.rank + length (kept_columns (length C.sources) bs)) where
   abbrev A : Answer
   A = C.answer
 
@@ -149,14 +151,16 @@ module _ (C : CoverOf) (bs : List BasisRow) (basis : IsBasisOver C bs) (may : Ke
     pub left : (g : ℕ) → met ≤ g → g < length (kept_columns (length C.sources) bs) → t < get_or (kept_columns (length C.sources) bs) g 0
 
   module _ (t met : ℕ) (last : t < length C.sources) (turn : IsTurn t met) where
-    module _ (room : met < length (kept_columns (length C.sources) bs)) (here : get_or (kept_columns (length C.sources) bs) met 0 ≡ suc t) where
+    module _ (room : met < length (kept_columns (length C.sources) bs))
+        (here : get_or (kept_columns (length C.sources) bs) met 0 ≡ suc t) where
       kept-next : DefinesNext N k met (source t)
       kept-next =
           let many = count in
           let place : column met - 1 ≡ t = omega arith in
           let long : length (kept_sources C bs) ≡ s = length-map K (λ (c : ℕ). get_or C.sources (c - 1) (image 0)) in
           let kept : get_or (kept_sources C bs) met (image 0) ≡ source t =
-          get_or-map (λ (c : ℕ). get_or C.sources (c - 1) (image 0)) K met 0 (image 0) room ∙ ap (λ (u : ℕ). get_or C.sources u (image 0)) place in
+          get_or-map (λ (c : ℕ). get_or C.sources (c - 1) (image 0)) K met 0 (image 0) room
+          ∙ ap (λ (u : ℕ). get_or C.sources u (image 0)) place in
           let allowed_there : IsAllowed A k (source t) =
           subst (λ (d : Source). IsAllowed C.answer (class_of C.answer) d) kept
           (may met (image 0) (omega arith)).allowed in
@@ -166,7 +170,8 @@ module _ (C : CoverOf) (bs : List BasisRow) (basis : IsBasisOver C bs) (may : Ke
             new_generator =
                 source-part t last ∙ ap (λ (c : ℕ). carried p s rows (unit_row q c)) (sym here)
                 ∙ carried-unit p q big bs basis.reduced met room ∙ unit_row-unit s met ∙ ap (λ (c : ℕ). unit c met) (sym count);
-            allowed = allowed-same (cover_modulo C bs) is (kept_sources C bs) (class_of C.answer) (source t) (units.sources t last) allowed_there;
+            allowed =
+                allowed-same (cover_modulo C bs) is (kept_sources C bs) (class_of C.answer) (source t) (units.sources t last) allowed_there;
           }
 
       next-turn : IsTurn (suc t) (suc met)
@@ -178,7 +183,8 @@ module _ (C : CoverOf) (bs : List BasisRow) (basis : IsBasisOver C bs) (may : Ke
         left = λ g l m. let rises = columns-rise met g (omega arith) m in omega arith;
       }
 
-    module _ (later : (g : ℕ) → met ≤ g → g < length (kept_columns (length C.sources) bs) → suc t < get_or (kept_columns (length C.sources) bs) g 0) where
+    module _ (later : (g : ℕ) → met ≤ g → g < length (kept_columns (length C.sources) bs)
+        → suc t < get_or (kept_columns (length C.sources) bs) g 0) where
       not-defined : (g : ℕ) → g < new_count N k → definition_at N (rank_up_to N k + g) ≢ source t
       not-defined g l e =
           let many = count in
@@ -233,7 +239,8 @@ module _ (C : CoverOf) (bs : List BasisRow) (basis : IsBasisOver C bs) (may : Ke
       subst (λ (ds : List Source). AreMet (eliminated C bs) (class_of C.answer) met ds) (sym (rest-past C.sources t (omega arith))) all
   walk (suc more) t met e turn =
       let last : t < length C.sources = omega arith in
-      let pivot : ((g : ℕ) → met ≤ g → g < length (kept_columns (length C.sources) bs) → suc t < get_or (kept_columns (length C.sources) bs) g 0)
+      let pivot : ((g : ℕ) → met ≤ g → g < length (kept_columns (length C.sources) bs)
+      → suc t < get_or (kept_columns (length C.sources) bs) g 0)
       → AreMet N k met (source t ∷ drop (suc t) C.sources) =
       λ later. inr (pivot-none t met last turn later, walk more (suc t) met (omega arith) (same-turn t met last turn later)) in
       let step : AreMet N k met (source t ∷ drop (suc t) C.sources) = elim (cases_lt met s) [
@@ -289,7 +296,8 @@ module _ (C : CoverOf) (bs : List BasisRow) (basis : IsBasisOver C bs) (may : Ke
           let first = at.first in
           let end = at.last in
           let within : column g - 1 < length C.sources = omega arith in
-          out (subst (λ (f : Source). In f C.sources) (sym (kept-definition g inside) ∙ e) (In-get_or C.sources (column g - 1) (image 0) within));
+          out (subst (λ (f : Source). In f C.sources) (sym (kept-definition g inside) ∙ e)
+          (In-get_or C.sources (column g - 1) (image 0) within));
       met_alone = λ g l.
           let one : suc g - 1 ≡ g = omega arith in
           ap (λ (x : List ℕ). get_or x g 0) no_part ∙ ap (λ (m : ℕ). get_or (zeros s) m 0) (sym one) ∙ at_column-zeros s (suc g);
@@ -297,5 +305,6 @@ module _ (C : CoverOf) (bs : List BasisRow) (basis : IsBasisOver C bs) (may : Ke
 
   pub kept-turns : AreMet (eliminated C bs) (class_of C.answer) 0 (all_sources C.answer)
   kept-turns =
-      met-whole (eliminated C bs) (class_of C.answer) (IsSource C.answer) C.sources left_out-none basis.cover.sources (all_sources-apart C.answer)
+      met-whole (eliminated C bs) (class_of C.answer) (IsSource C.answer) C.sources left_out-none basis.cover.sources
+      (all_sources-apart C.answer)
       (wanted-sources C.answer (class_of C.answer)) (λ x c i. c) 0 kept-sources-met

@@ -53,7 +53,8 @@ module _ (Y : RowedAnswer) (is : IsRowedAnswer Y) (sources : List Source) (obeys
   old-commutator j i m l b other =
       let e : List ℕ = commutator_side Y.answer.presentation j i in
       let x : List ℕ = commutator_row (rowed Y) j i in
-      let long : suc j + length (commutator_side Y.answer.presentation j i) ≡ Y.answer.presentation.rank = (is.answer.presentation.commutator_sides j i l b).count in
+      let long : suc j + length (commutator_side Y.answer.presentation j i) ≡ Y.answer.presentation.rank =
+      (is.answer.presentation.commutator_sides j i l b).count in
       let wide : length (commutator_row (rowed Y) j i) ≡ Y.width = (is.presentation.commutator_rows j i l b).count in
       let first = old-weight Y is sources j l in
       let second = old-weight Y is sources i (omega arith) in
@@ -69,17 +70,20 @@ module _ (Y : RowedAnswer) (is : IsRowedAnswer Y) (sources : List Source) (obeys
             elim (cases_lt (suc (class_of A)) (weight_at A j + weight_at A i)) [
               | inl above ↦
                   absurd
-                  (other (entry ∙ ap (λ (y : List ℕ). get_or y (m - length (commutator_side Y.answer.presentation j i)) 0) (heavy j i l b above)
+                  (other (entry ∙ ap (λ (y : List ℕ). get_or y (m - length (commutator_side Y.answer.presentation j i)) 0)
+                  (heavy j i l b above)
                   ∙ get_or-zeros Y.width (m - length (commutator_side Y.answer.presentation j i))))
               | inr light ↦ omega arith
             ]
       ]
 
-  old-power : (l m : ℕ) → l < n → get_or (power_side A.presentation l ++ power_row Z l) m 0 ≢ 0 → suc (weight_at N l) ≤ weight_at N (suc l + m)
+  old-power : (l m : ℕ) → l < n → get_or (power_side A.presentation l ++ power_row Z l) m 0 ≢ 0
+      → suc (weight_at N l) ≤ weight_at N (suc l + m)
   old-power l m b other =
       let e : List ℕ = power_side Y.answer.presentation l in
       let x : List ℕ = power_row (rowed Y) l in
-      let long : suc l + length (power_side Y.answer.presentation l) ≡ Y.answer.presentation.rank = (is.answer.presentation.power_sides l b).count in
+      let long : suc l + length (power_side Y.answer.presentation l) ≡ Y.answer.presentation.rank =
+      (is.answer.presentation.power_sides l b).count in
       let wide : length (power_row (rowed Y) l) ≡ Y.width = (is.presentation.power_rows l b).count in
       let first = old-weight Y is sources l b in
       elim (cases_lt m (length (power_side Y.answer.presentation l))) [

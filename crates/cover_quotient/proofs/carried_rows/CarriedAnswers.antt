@@ -8,7 +8,8 @@ use Rattle.fp_echelon.specs.Span.{AreRows}
 use Rattle.p_cover.specs.RowedAnswer.{RowedAnswer, IsRowedAnswer, rowed, row_at}
 use Rattle.pq_base.specs.EntryWords.{IsSourceOf}
 use Rattle.cover_quotient.specs.Carried.{carried, carried_answer}
-use Rattle.cover_quotient.proofs.carried_rows.CarriedPresentations.{carry-normal, carry-zeros, power_row-carried, commutator_row-carried, carried-rowed}
+use Rattle.cover_quotient.proofs.carried_rows.CarriedPresentations.{carry-normal, carry-zeros, power_row-carried, commutator_row-carried}
+use Rattle.cover_quotient.proofs.carried_rows.CarriedPresentations.{carried-rowed}
 
 normal-map : (p q : ℕ) (f : List ℕ → List ℕ) (xs : List (List ℕ)) → ((x : List ℕ) → IsNormal p q (f x)) → AreNormal p q (map f xs)
 normal-map p q f [] h = tt

@@ -18,7 +18,8 @@ use Rattle.cover_quotient.specs.Carried.{carried, carried_presentation, carried_
 use Rattle.cover_quotient.proofs.carried_rows.CarriedRows.{carried-row, carried-sum, normal_from_row}
 
 -- an answer with its rows carried is read as its presentation with the rows carried
-pub rowed-carried : (width : ℕ) (rows : List (List ℕ)) (Y : RowedAnswer) → rowed (carried_answer width rows Y) ≡ carried_presentation width rows (rowed Y)
+pub rowed-carried : (width : ℕ) (rows : List (List ℕ)) (Y : RowedAnswer)
+    → rowed (carried_answer width rows Y) ≡ carried_presentation width rows (rowed Y)
 rowed-carried width rows Y = refl
 
 module _ (Z : RowedPresentation) (rowed : IsRowed Z) (positive : 0 < Z.base.prime) (width : ℕ) (rows : List (List ℕ))
@@ -41,7 +42,8 @@ module _ (Z : RowedPresentation) (rowed : IsRowed Z) (positive : 0 < Z.base.prim
   power_row-carried i h = let c = rowed.power_count in get_or-map carry Z.power_rows i [] [] (omega arith)
 
   table_row : (j : ℕ) → j < Z.base.rank
-      → get_or (carried_presentation width rows Z).commutator_rows j [] ≡ map (carried Z.base.prime width rows) (get_or Z.commutator_rows j [])
+      → get_or (carried_presentation width rows Z).commutator_rows j []
+      ≡ map (carried Z.base.prime width rows) (get_or Z.commutator_rows j [])
   table_row j h = let c = rowed.commutator_count in get_or-map (λ (r : List (List ℕ)). map carry r) Z.commutator_rows j [] [] (omega arith)
 
   pub commutator_row-carried : (j i : ℕ) → j < Z.base.rank → i < j
@@ -70,22 +72,26 @@ module _ (Z : RowedPresentation) (rowed : IsRowed Z) (positive : 0 < Z.base.prim
   }
 
   -- states and chains of pushes
-  pub state-carried : (n : ℕ) (s : State) → IsState Z n s → IsState (carried_presentation width rows Z) n (mapped (carried Z.base.prime width rows) s)
+  pub state-carried : (n : ℕ) (s : State) → IsState Z n s
+      → IsState (carried_presentation width rows Z) n (mapped (carried Z.base.prime width rows) s)
   state-carried n s h = record { exponents = h.exponents; row = carry-normal s.row }
 
   pub push-carried : {s t : State} {i : ℕ} → IsPushed Z s i t
-      → IsPushed (carried_presentation width rows Z) (mapped (carried Z.base.prime width rows) s) i (mapped (carried Z.base.prime width rows) t)
+      → IsPushed (carried_presentation width rows Z) (mapped (carried Z.base.prime width rows) s) i
+      (mapped (carried Z.base.prime width rows) t)
   push-carried {t = t} h = record {
     run = run-mapped Z (carried Z.base.prime width rows) width Q.power_rows Q.commutator_rows rows_are-carried h.run;
     state = state-carried Z.base.rank t h.state;
   }
 
   pub chain-carried : {s t : State} {w : List ℕ} → PushChain Z s w t
-      → PushChain (carried_presentation width rows Z) (mapped (carried Z.base.prime width rows) s) w (mapped (carried Z.base.prime width rows) t)
+      → PushChain (carried_presentation width rows Z) (mapped (carried Z.base.prime width rows) s) w
+      (mapped (carried Z.base.prime width rows) t)
   chain-carried no_push = no_push
   chain-carried (then_push h c) = then_push (push-carried h) (chain-carried c)
 
-  pub identity-carried : mapped (carried Z.base.prime width rows) (identity Z Z.base.rank) ≡ identity (carried_presentation width rows Z) Z.base.rank
+  pub identity-carried : mapped (carried Z.base.prime width rows) (identity Z Z.base.rank)
+      ≡ identity (carried_presentation width rows Z) Z.base.rank
   identity-carried = ap (λ (x : List ℕ). record { exponents = replicate Z.base.rank 0; row = x }) carry-zeros
 
   pub add_row-carried : (t : List ℕ) (s : State)

@@ -1,6 +1,7 @@
 -- The words of a presentation with rows, with its tails replaced by the words of rows: joined words stay joined in the
 -- presentation with carried rows, and the word of a row is joined to the word of the row that it is carried to.
-use Rattle.std.proofs.Common.{◌≡◌, ℕ, suc, ◌+◌, ◌-◌, ◌<◌, ℤ, List, [], ◌∷◌, ◌++◌, get_or, length, map, inl, inr, ap, ap₂, sym, ◌∙◌, subst, arith}
+use Rattle.std.proofs.Common.{◌≡◌, ℕ, suc, ◌+◌, ◌-◌, ◌<◌, ℤ, List, [], ◌∷◌, ◌++◌, get_or, length, map, inl, inr, ap, ap₂, sym, ◌∙◌, subst}
+use Rattle.std.proofs.Common.{arith}
 use Rattle.std.proofs.lemmas.Bool.{cases_lt}
 use Rattle.std.proofs.lemmas.List.{get_or_append_left, get_or-append-add}
 use Rattle.std.proofs.Math.ListN.{get_or-map}
@@ -13,7 +14,8 @@ use Rattle.pq_base.proofs.words.WordLaws.{word_from-append, word_from-zeros, sub
 use Rattle.pq_base.proofs.words.LetterLaws.{HasLetters-word_from, sub_same}
 use Rattle.pq_base.proofs.words.RangeLaws.{generators, get_or-generators, sub-generators}
 use Rattle.pq_base.proofs.words.WordGroup.{joined-sub}
-use Rattle.pq_base.proofs.words.JoinedLaws.{joined-from_equal, joined-sym, joined-trans, joined-append_left, joined-quotient, comm-joined_nil, power-joined, commutator-joined}
+use Rattle.pq_base.proofs.words.JoinedLaws.{joined-from_equal, joined-sym, joined-trans, joined-append_left, joined-quotient}
+use Rattle.pq_base.proofs.words.JoinedLaws.{comm-joined_nil, power-joined, commutator-joined}
 use Rattle.fp_rows.specs.Rows.{IsRow}
 use Rattle.fp_rows.proofs.RowLaws.{scale_row-prime}
 use Rattle.fp_echelon.specs.Span.{AreRows}
@@ -78,8 +80,10 @@ module _ (Z : RowedPresentation) (rowed : IsRowed Z) (positive : 0 < Z.base.prim
       ap (λ (w : List ℤ). sub w images) (word_from-append (suc i) e x ∙ ap (λ (m : ℕ). word_from (suc i) e ++ word_from m x) c)
       ∙ sub-append front (word_from n x) images
       ∙ ap (λ (w : List ℤ). w ++ sub (word_from n x) images) stays in
-      let carried_whole : word_from (suc i) (e ++ carried Z.base.prime width rows x) ≡ front ++ word_from n (carried Z.base.prime width rows x) =
-      word_from-append (suc i) e (carried Z.base.prime width rows x) ∙ ap (λ (m : ℕ). word_from (suc i) e ++ word_from m (carried Z.base.prime width rows x)) c in
+      let carried_whole : word_from (suc i) (e ++ carried Z.base.prime width rows x)
+      ≡ front ++ word_from n (carried Z.base.prime width rows x) =
+      word_from-append (suc i) e (carried Z.base.prime width rows x)
+      ∙ ap (λ (m : ℕ). word_from (suc i) e ++ word_from m (carried Z.base.prime width rows x)) c in
       joined-trans (joined-from_equal (flat Q) carried_whole)
       (joined-trans (joined-append_left front (joined-sym (row-word x l))) (joined-from_equal (flat Q) (sym whole)))
 
@@ -93,8 +97,10 @@ module _ (Z : RowedPresentation) (rowed : IsRowed Z) (positive : 0 < Z.base.prim
         let c = (rowed.base.power_sides i h).count in
         let side : List ℕ = power_side Z.base i in
         let word_is : power_word (flat Q) i ≡ word_from (suc i) (power_side Z.base i ++ carried Z.base.prime width rows (power_row Z i)) =
-        ap (word_from (suc i)) (power_side-flat Q Q_rowed i h ∙ ap (λ (x : List ℕ). power_side Z.base i ++ x) (power_row-carried Z rowed positive width rows are i h)) in
-        let from_is : word_from (suc i) (power_side Z.base i ++ power_row Z i) ≡ power_word (flat Z) i = ap (word_from (suc i)) (sym (power_side-flat Z rowed i h)) in
+        ap (word_from (suc i)) (power_side-flat Q Q_rowed i h
+        ∙ ap (λ (x : List ℕ). power_side Z.base i ++ x) (power_row-carried Z rowed positive width rows are i h)) in
+        let from_is : word_from (suc i) (power_side Z.base i ++ power_row Z i) ≡ power_word (flat Z) i =
+        ap (word_from (suc i)) (sym (power_side-flat Z rowed i h)) in
         joined-trans (joined-from_equal (flat Q) (ap (λ (w : List ℤ). copies w Z.base.prime) (generator-letter n rows i h)))
         (joined-trans (power-joined (flat Q) i (omega arith))
         (joined-trans (joined-from_equal (flat Q) word_is)
@@ -109,7 +115,8 @@ module _ (Z : RowedPresentation) (rowed : IsRowed Z) (positive : 0 < Z.base.prim
         ap (word_from (suc (n + t))) (power_side-tail Z rowed t r (omega arith)) ∙ word_from-zeros (suc (n + t)) r in
         let power : Joined (flat Q) (copies (word_from n (get_or rows t [])) Z.base.prime) [] =
         joined-trans (row_words-multiple Q Q_rowed positive Z.base.prime (get_or rows t []) row)
-        (joined-from_equal (flat Q) (ap (word_from Z.base.rank) (scale_row-prime Z.base.prime (get_or rows t [])) ∙ word_from-zeros n (length (get_or rows t [])))) in
+        (joined-from_equal (flat Q)
+        (ap (word_from Z.base.rank) (scale_row-prime Z.base.prime (get_or rows t [])) ∙ word_from-zeros n (length (get_or rows t [])))) in
         subst (λ (j : ℕ). Joined (flat Q) (copies (get_or images j []) Z.base.prime) (sub (power_word (flat Z) j) images)) place
         (joined-trans (joined-from_equal (flat Q) (ap (λ (w : List ℤ). copies w Z.base.prime) (tail-letter n rows t)))
         (joined-trans power (joined-from_equal (flat Q) (ap (λ (w : List ℤ). sub w (carried_letters Z.base.rank rows)) (sym nothing)))))
@@ -123,13 +130,16 @@ module _ (Z : RowedPresentation) (rowed : IsRowed Z) (positive : 0 < Z.base.prim
       let row = tail_row t l in
       elim (cases_lt i Z.base.rank) [
         | inl h ↦
-            subst (λ (w : List ℤ). Joined (flat Q) (word_from n (get_or rows t []) ++ w) (w ++ word_from n (get_or rows t []))) (sym (generator-letter n rows i h))
+            subst (λ (w : List ℤ). Joined (flat Q) (word_from n (get_or rows t []) ++ w) (w ++ word_from n (get_or rows t [])))
+            (sym (generator-letter n rows i h))
             (row-commutes Q Q_rowed r (i ∷ []) row.count (h, tt))
         | inr h ↦
             let u : ℕ = i - Z.base.rank in
             let place : n + u ≡ i = omega arith in
-            subst (λ (j : ℕ). Joined (flat Q) (word_from n (get_or rows t []) ++ get_or images j []) (get_or images j [] ++ word_from n (get_or rows t []))) place
-            (subst (λ (w : List ℤ). Joined (flat Q) (word_from n (get_or rows t []) ++ w) (w ++ word_from n (get_or rows t []))) (sym (tail-letter n rows u))
+            subst (λ (j : ℕ). Joined (flat Q) (word_from n (get_or rows t []) ++ get_or images j [])
+            (get_or images j [] ++ word_from n (get_or rows t []))) place
+            (subst (λ (w : List ℤ). Joined (flat Q) (word_from n (get_or rows t []) ++ w) (w ++ word_from n (get_or rows t [])))
+            (sym (tail-letter n rows u))
             (row_words-commute Q Q_rowed positive r (get_or rows u []) row (tail_row u (omega arith))))
       ]
 
@@ -139,7 +149,8 @@ module _ (Z : RowedPresentation) (rowed : IsRowed Z) (positive : 0 < Z.base.prim
     | inl h ↦
         let c = (rowed.base.commutator_sides j i h m).count in
         let side : List ℕ = commutator_side Z.base j i in
-        let word_is : commutator_word (flat Q) j i ≡ word_from (suc j) (commutator_side Z.base j i ++ carried Z.base.prime width rows (commutator_row Z j i)) =
+        let word_is : commutator_word (flat Q) j i
+        ≡ word_from (suc j) (commutator_side Z.base j i ++ carried Z.base.prime width rows (commutator_row Z j i)) =
         ap (word_from (suc j))
         (commutator_side-flat Q Q_rowed j i h
         ∙ ap (λ (x : List ℕ). commutator_side Z.base j i ++ x) (commutator_row-carried Z rowed positive width rows are j i h m)) in
@@ -158,8 +169,10 @@ module _ (Z : RowedPresentation) (rowed : IsRowed Z) (positive : 0 < Z.base.prim
         ap (word_from (suc (n + t))) (commutator_side-tail Z rowed t r i (omega arith) (omega arith)) ∙ word_from-zeros (suc (n + t)) r in
         let commute : Joined (flat Q) (comm (word_from n (get_or rows t [])) (get_or images i [])) [] =
         comm-joined_nil (word_from n (get_or rows t [])) (get_or images i []) (tail-commutes t i (omega arith) (omega arith)) in
-        subst (λ (k : ℕ). Joined (flat Q) (comm (get_or images k []) (get_or images i [])) (sub (commutator_word (flat Z) k i) images)) place
-        (joined-trans (joined-from_equal (flat Q) (ap (λ (w : List ℤ). comm w (get_or (carried_letters Z.base.rank rows) i [])) (tail-letter n rows t)))
+        subst (λ (k : ℕ). Joined (flat Q) (comm (get_or images k []) (get_or images i [])) (sub (commutator_word (flat Z) k i) images))
+        place
+        (joined-trans (joined-from_equal (flat Q)
+        (ap (λ (w : List ℤ). comm w (get_or (carried_letters Z.base.rank rows) i [])) (tail-letter n rows t)))
         (joined-trans commute (joined-from_equal (flat Q) (ap (λ (w : List ℤ). sub w (carried_letters Z.base.rank rows)) (sym nothing)))))
   ]
 

@@ -6,7 +6,8 @@ use Rattle.std.proofs.lemmas.List.Elements.{All-head, All-tail}
 use Rattle.pq_base.specs.Presentation.{IsRelatorOf, word_from}
 use Rattle.pq_base.specs.Joined.{Joined}
 use Rattle.pq_base.proofs.words.WordLaws.{word_from-zeros}
-use Rattle.pq_base.proofs.groups.Groups.{Group, element_in, value_in, power_in, same_from_equal, power_in-same, value_in-append, value_in-copies, value_in-joined}
+use Rattle.pq_base.proofs.groups.Groups.{Group, element_in, value_in, power_in, same_from_equal, power_in-same, value_in-append}
+use Rattle.pq_base.proofs.groups.Groups.{value_in-copies, value_in-joined}
 use Rattle.fp_rows.specs.Rows.{IsRow, add_rows, scale_row}
 use Rattle.fp_rows.proofs.RowLaws.{IsRow-scale_row}
 use Rattle.fp_rows.specs.Differences.{difference}
@@ -64,11 +65,13 @@ module _ (G : Group) (Z : RowedPresentation) (rowed : IsRowed Z) (some : 1 < Z.b
   combination-one (c ∷ cs) (r ∷ rows) are all =
       let p : ℕ = Z.base.prime in
       let positive : 0 < Z.base.prime = omega arith in
-      let first : G.same (row_value r) G.one = All-head (λ (x : List ℕ). G.same (value_in G h (word_from Z.base.rank x)) G.one) r rows all in
+      let first : G.same (row_value r) G.one =
+      All-head (λ (x : List ℕ). G.same (value_in G h (word_from Z.base.rank x)) G.one) r rows all in
       let multiple : G.same (row_value (scale_row Z.base.prime c r)) G.one =
       G.transitive (row_value-multiple c r are.0) (G.transitive (power_in-same G c first) (power_in-of_one G c)) in
       G.transitive
-      (row_value-sum (scale_row p c r) (combine p Z.width cs rows) (IsRow-scale_row p Z.width c r positive are.0) (IsRow-combine p Z.width cs rows positive are.1))
+      (row_value-sum (scale_row p c r) (combine p Z.width cs rows) (IsRow-scale_row p Z.width c r positive are.0)
+      (IsRow-combine p Z.width cs rows positive are.1))
       (G.transitive
       (G.times-same multiple
       (combination-one cs rows are.1 (All-tail (λ (x : List ℕ). G.same (value_in G h (word_from Z.base.rank x)) G.one) r rows all)))

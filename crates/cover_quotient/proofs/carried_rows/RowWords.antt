@@ -42,9 +42,11 @@ module _ (Y : RowedPresentation) (rowed : IsRowed Y) (positive : 0 < Y.base.prim
   pub row_words-multiple : (k : ℕ) (x : List ℕ) → IsRow Y.base.prime Y.width x
       → Joined (flat Y) (copies (word_from Y.base.rank x) k) (word_from Y.base.rank (scale_row Y.base.prime k x))
   row_words-multiple zero x row =
-      joined-from_equal (flat Y) (sym (ap (word_from Y.base.rank) (scale_row-zero Y.base.prime x positive) ∙ word_from-zeros Y.base.rank (length x)))
+      joined-from_equal (flat Y)
+      (sym (ap (word_from Y.base.rank) (scale_row-zero Y.base.prime x positive) ∙ word_from-zeros Y.base.rank (length x)))
   row_words-multiple (suc k) x row =
-      let rest : Joined (flat Y) (word_from Y.base.rank x ++ copies (word_from Y.base.rank x) k) (word_from Y.base.rank x ++ word_from Y.base.rank (scale_row Y.base.prime k x)) =
+      let rest : Joined (flat Y) (word_from Y.base.rank x ++ copies (word_from Y.base.rank x) k)
+      (word_from Y.base.rank x ++ word_from Y.base.rank (scale_row Y.base.prime k x)) =
       joined-append_left (word_from Y.base.rank x) (row_words-multiple k x row) in
       joined-trans rest
       (joined-trans (row_words-sum x (scale_row Y.base.prime k x) row (IsRow-scale_row Y.base.prime Y.width k x positive row))
@@ -52,7 +54,8 @@ module _ (Y : RowedPresentation) (rowed : IsRowed Y) (positive : 0 < Y.base.prim
 
   -- a word of exponents with its letters replaced by the words of rows
   pub row_words-combine : (images : List (List ℤ)) (k : ℕ) (x : List ℕ) (rows : List (List ℕ)) → length x ≡ length rows
-      → AreRows Y.base.prime Y.width rows → ((i : ℕ) → i < length rows → get_or images (k + i) [] ≡ word_from Y.base.rank (get_or rows i []))
+      → AreRows Y.base.prime Y.width rows
+      → ((i : ℕ) → i < length rows → get_or images (k + i) [] ≡ word_from Y.base.rank (get_or rows i []))
       → Joined (flat Y) (sub (word_from k x) images) (word_from Y.base.rank (combine Y.base.prime Y.width x rows))
   row_words-combine images k [] rows e are image = joined-from_equal (flat Y) (sym (word_from-zeros Y.base.rank Y.width))
   row_words-combine images k (a ∷ x) [] e are image = absurd (omega arith)
@@ -61,9 +64,11 @@ module _ (Y : RowedPresentation) (rowed : IsRowed Y) (positive : 0 < Y.base.prim
       let here : k + 0 ≡ k = omega arith in
       let first : sub (letter k) images ≡ word_from Y.base.rank r =
       sub-letter k images ∙ ap (λ (i : ℕ). get_or images i []) (sym here) ∙ image 0 (omega arith) in
-      let split : sub (copies (letter k) a ++ word_from (suc k) x) images ≡ copies (word_from Y.base.rank r) a ++ sub (word_from (suc k) x) images =
+      let split : sub (copies (letter k) a ++ word_from (suc k) x) images
+      ≡ copies (word_from Y.base.rank r) a ++ sub (word_from (suc k) x) images =
       sub-append (copies (letter k) a) (word_from (suc k) x) images
-      ∙ ap (λ (w : List ℤ). w ++ sub (word_from (suc k) x) images) (sub-copies (letter k) a images ∙ ap (λ (w : List ℤ). copies w a) first) in
+      ∙ ap (λ (w : List ℤ). w ++ sub (word_from (suc k) x) images)
+      (sub-copies (letter k) a images ∙ ap (λ (w : List ℤ). copies w a) first) in
       let later : (i : ℕ) → i < length rows → get_or images (suc k + i) [] ≡ word_from Y.base.rank (get_or rows i []) =
       λ i l. (let next : suc k + i ≡ k + suc i = omega arith in ap (λ (j : ℕ). get_or images j []) next) ∙ image (suc i) (omega arith) in
       joined-trans (joined-from_equal (flat Y) split)
@@ -79,9 +84,11 @@ module _ (Y : RowedPresentation) (rowed : IsRowed Y) (positive : 0 < Y.base.prim
   combination-trivial (c ∷ cs) [] are all = joined-from_equal (flat Y) (word_from-zeros Y.base.rank Y.width)
   combination-trivial (c ∷ cs) (r ∷ rows) are all =
       let p : ℕ = Y.base.prime in
-      let trivial : Joined (flat Y) (word_from Y.base.rank r) [] = All-head (λ (x : List ℕ). Joined (flat Y) (word_from Y.base.rank x) []) r rows all in
+      let trivial : Joined (flat Y) (word_from Y.base.rank r) [] =
+      All-head (λ (x : List ℕ). Joined (flat Y) (word_from Y.base.rank x) []) r rows all in
       let multiple : Joined (flat Y) (word_from Y.base.rank (scale_row Y.base.prime c r)) [] =
-      joined-trans (joined-sym (row_words-multiple c r are.0)) (joined-trans (joined-copies c trivial) (joined-from_equal (flat Y) (copies-nil c))) in
+      joined-trans (joined-sym (row_words-multiple c r are.0))
+      (joined-trans (joined-copies c trivial) (joined-from_equal (flat Y) (copies-nil c))) in
       let rest : Joined (flat Y) (word_from Y.base.rank (combine Y.base.prime Y.width cs rows)) [] =
       combination-trivial cs rows are.1 (All-tail (λ (x : List ℕ). Joined (flat Y) (word_from Y.base.rank x) []) r rows all) in
       joined-trans

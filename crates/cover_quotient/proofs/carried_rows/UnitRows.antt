@@ -1,5 +1,6 @@
 -- The rows with one entry 1: their entries, and each row as the combination of them that it says itself.
-use Rattle.std.proofs.Common.{◌≡◌, ◌≢◌, ℕ, zero, suc, ◌+◌, ◌-◌, ◌*◌, ◌%◌, ◌<◌, ◌≤◌, Bool, true, false, cond, eqb, List, [], ◌∷◌, length, map, get_or, refl, ap, ap₂, sym, ◌∙◌, arith, mod-eq_of_lt, ne_eqb}
+use Rattle.std.proofs.Common.{◌≡◌, ◌≢◌, ℕ, zero, suc, ◌+◌, ◌-◌, ◌*◌, ◌%◌, ◌<◌, ◌≤◌, Bool, true, false, cond, eqb, List, [], ◌∷◌, length}
+use Rattle.std.proofs.Common.{map, get_or, refl, ap, ap₂, sym, ◌∙◌, arith, mod-eq_of_lt, ne_eqb}
 use Rattle.pq_base.specs.Elementary.{zeros}
 use Rattle.pq_base.specs.Table.{AllBelow}
 use Rattle.pq_base.specs.Canonical.{numbers_from}
@@ -57,12 +58,14 @@ at_column-unit_row_other n t (suc c) h ne =
     ap (λ (i : ℕ). get_or (unit_row n t) i 0) same ∙ unit_row-other n t c ne
 
 -- the unit rows after the first are 0 there
-later_units : (n a k : ℕ) → map (unit_row (suc n)) (numbers_from (suc (suc a)) k) ≡ map (λ (r : List ℕ). 0 ∷ r) (map (unit_row n) (numbers_from (suc a) k))
+later_units : (n a k : ℕ)
+    → map (unit_row (suc n)) (numbers_from (suc (suc a)) k) ≡ map (λ (r : List ℕ). 0 ∷ r) (map (unit_row n) (numbers_from (suc a) k))
 later_units n a zero = refl
 later_units n a (suc k) =
     let same : suc (suc a) - 1 ≡ suc a = omega arith in
     ap₂ (λ (r : List ℕ) (rows : List (List ℕ)). r ∷ rows)
-    (ap (λ (b : Bool). cond b 1 0 ∷ unit_row n (suc (suc a) - 1)) (ne_eqb (suc (suc a)) 1 (λ e. omega arith)) ∙ ap (λ (t : ℕ). 0 ∷ unit_row n t) same)
+    (ap (λ (b : Bool). cond b 1 0 ∷ unit_row n (suc (suc a) - 1)) (ne_eqb (suc (suc a)) 1 (λ e. omega arith))
+    ∙ ap (λ (t : ℕ). 0 ∷ unit_row n t) same)
     (later_units n (suc a) k)
 
 -- rows that all begin with 0
@@ -72,7 +75,8 @@ combine-zero_first_column p n [] rows h = refl
 combine-zero_first_column p n (c ∷ cs) [] h = refl
 combine-zero_first_column p n (c ∷ cs) (r ∷ rows) h =
     let none : c * 0 ≡ 0 = omega arith in
-    let first : ((c * 0) % p + 0) % p ≡ 0 = ap (λ (m : ℕ). (m % p + 0) % p) none ∙ ap (λ (m : ℕ). (m + 0) % p) (mod-eq_of_lt h) ∙ mod-eq_of_lt h in
+    let first : ((c * 0) % p + 0) % p ≡ 0 =
+    ap (λ (m : ℕ). (m % p + 0) % p) none ∙ ap (λ (m : ℕ). (m + 0) % p) (mod-eq_of_lt h) ∙ mod-eq_of_lt h in
     ap (add_rows p (((c * 0) % p) ∷ scale_row p c r)) (combine-zero_first_column p n cs rows h)
     ∙ ap (λ (m : ℕ). m ∷ add_rows p (scale_row p c r) (combine p n cs rows)) first
 
@@ -89,7 +93,8 @@ combine-unit_rows p (suc n) (a ∷ x) h row =
     let first : ((a * 1) % p + 0) % p ≡ a =
     ap (λ (m : ℕ). (m % p + 0) % p) once ∙ ap (λ (m : ℕ). (m + 0) % p) (mod-eq_of_lt low) ∙ ap (λ (m : ℕ). m % p) all ∙ mod-eq_of_lt low in
     ap (λ (rows : List (List ℕ)). add_rows p (scale_row p a (unit_row (suc n) 1)) (combine p (suc n) x rows)) (later_units n 0 n)
-    ∙ ap (add_rows p (scale_row p a (unit_row (suc n) 1))) (combine-zero_first_column p n x (unit_rows n) h ∙ ap (λ (l : List ℕ). 0 ∷ l) (combine-unit_rows p n x h rest))
+    ∙ ap (add_rows p (scale_row p a (unit_row (suc n) 1)))
+    (combine-zero_first_column p n x (unit_rows n) h ∙ ap (λ (l : List ℕ). 0 ∷ l) (combine-unit_rows p n x h rest))
     ∙ ap (λ (m : ℕ). m ∷ add_rows p (scale_row p a (unit_row n (1 - 1))) x) first
     ∙ ap (λ (l : List ℕ). a ∷ add_rows p (scale_row p a l) x) (unit_row-zero n)
     ∙ ap (λ (l : List ℕ). a ∷ add_rows p l x) (scale_row-zeros p a n h)
@@ -110,7 +115,8 @@ combine-unit_row p q (suc n) (suc (suc t)) (r ∷ rows) h are e low high =
     let before : suc t - 1 ≡ t = omega arith in
     let rest : combine p q (unit_row n (suc t)) rows ≡ get_or rows (suc t - 1) [] =
     combine-unit_row p q n (suc t) rows h are.1 (omega arith) (omega arith) (omega arith) in
-    ap (λ (b : Bool). add_rows p (scale_row p (cond b 1 0) r) (combine p q (unit_row n (suc (suc t) - 1)) rows)) (ne_eqb (suc (suc t)) 1 (λ e. omega arith))
+    ap (λ (b : Bool). add_rows p (scale_row p (cond b 1 0) r) (combine p q (unit_row n (suc (suc t) - 1)) rows))
+    (ne_eqb (suc (suc t)) 1 (λ e. omega arith))
     ∙ ap₂ (add_rows p) (scale_row-zero p r h ∙ ap zeros are.0.count) (ap (λ (u : ℕ). combine p q (unit_row n u) rows) same)
     ∙ zeros-add_rows p q (combine p q (unit_row n (suc t)) rows) (IsRow-combine p q (unit_row n (suc t)) rows h are.1)
     ∙ rest ∙ ap (λ (i : ℕ). get_or rows i []) before ∙ ap (λ (i : ℕ). get_or (r ∷ rows) i []) (sym same)

@@ -19,7 +19,8 @@ use Rattle.p_cover.specs.Sources.{place_in}
 use Rattle.p_cover.specs.Covers.{CoverOf, IsCover, rowed_cover}
 use Rattle.cover_quotient.specs.Fits.{spelled_elements, Fits, tail_element, cover_elements, LeftOutFit, IsJustified}
 use Rattle.cover_quotient.proofs.fitting.EntryLevels.{entry-level}
-use Rattle.pq_base.proofs.groups.LevelGroups.{level_group, numbers, numbers-elements, numbers-values, value_in-number, same_one-level, level-same_one, level-central, level-order}
+use Rattle.pq_base.proofs.groups.LevelGroups.{level_group, numbers, numbers-elements, numbers-values, value_in-number, same_one-level}
+use Rattle.pq_base.proofs.groups.LevelGroups.{level-same_one, level-central, level-order}
 use Rattle.cover_quotient.proofs.fitting.TailValues.{spelled_in, with_tails}
 use Rattle.cover_quotient.proofs.fitting.CoverValues.{entry_elements}
 use Rattle.cover_quotient.proofs.carried_rows.RowValues.{row_value-sum, span-one}
@@ -47,7 +48,8 @@ module _ (T : Table) (g : IsGroup T) (p k : ℕ) where
     numbers-entries (d ∷ ds) = ap₂ (λ (x : ℕ) (xs : List ℕ). x ∷ xs) (given-number (entry_word A d)) (numbers-entries ds)
 
     numbers-with_tails : (is : IsAnswer A) (ds : List Definition)
-        → numbers T g p k (with_tails (level_group T g p k) (elements T f h) A is (entry_elements (level_group T g p k) (elements T f h) A ds))
+        → numbers T g p k (with_tails (level_group T g p k) (elements T f h) A is
+        (entry_elements (level_group T g p k) (elements T f h) A ds))
         ≡ spelled_elements T f A ++ map (tail_element T f A) ds
     numbers-with_tails is ds =
         numbers-append (spelled_in (level_group T g p k) (elements T f h) A) (entry_elements (level_group T g p k) (elements T f h) A ds)
@@ -56,10 +58,12 @@ module _ (T : Table) (g : IsGroup T) (p k : ℕ) where
 
     -- and in the generators and tails
     pub tails-number : (is : IsAnswer A) (ds : List Definition) (w : List ℤ)
-        → (value_in (level_group T g p k) (with_tails (level_group T g p k) (elements T f h) A is (entry_elements (level_group T g p k) (elements T f h) A ds)) w).number
+        → (value_in (level_group T g p k)
+        (with_tails (level_group T g p k) (elements T f h) A is (entry_elements (level_group T g p k) (elements T f h) A ds)) w).number
         ≡ value T (spelled_elements T f A ++ map (tail_element T f A) ds) w
     tails-number is ds w =
-        value_in-number T g p k (with_tails (level_group T g p k) (elements T f h) A is (entry_elements (level_group T g p k) (elements T f h) A ds)) w
+        value_in-number T g p k (with_tails (level_group T g p k) (elements T f h) A is
+        (entry_elements (level_group T g p k) (elements T f h) A ds)) w
         ∙ ap (λ (l : List ℕ). value T l w) (numbers-with_tails is ds)
 
 module _ (T : Table) (g : IsGroup T) (f : List ℕ) (below : AllBelow T.size f) (c : ℕ) (C : CoverOf) (is : IsCover C)
@@ -100,7 +104,8 @@ module _ (T : Table) (g : IsGroup T) (f : List ℕ) (below : AllBelow T.size f) 
   cover-number w = tails-number T g p (suc c) f below C.answer is.answer C.sources w
 
   -- what is one
-  pub one-in_level : (w : List ℤ) → Q.same (value_in Q h w) Q.one → InLevel T C.answer.presentation.prime (suc c) (value T (cover_elements T f C) w)
+  pub one-in_level : (w : List ℤ) → Q.same (value_in Q h w) Q.one
+      → InLevel T C.answer.presentation.prime (suc c) (value T (cover_elements T f C) w)
   one-in_level w e =
       subst (λ (x : ℕ). InLevel T p (suc c) x) (cover-number w) (same_one-level T g p (suc c) (value_in Q h w) e)
 
@@ -119,7 +124,8 @@ module _ (T : Table) (g : IsGroup T) (f : List ℕ) (below : AllBelow T.size f) 
       (image-value Q F C.answer is.answer some C.sources is.sources cover-central cover-left_out i l)
 
   pub joined-in_level : (u v : List ℤ) → Joined (flat (rowed (rowed_cover C))) u v
-      → InLevel T C.answer.presentation.prime (suc c) (times T (inverse T (value T (cover_elements T f C) u)) (value T (cover_elements T f C) v))
+      → InLevel T C.answer.presentation.prime (suc c)
+      (times T (inverse T (value T (cover_elements T f C) u)) (value T (cover_elements T f C) v))
   joined-in_level u v e =
       subst (λ (x : ℕ). InLevel T p (suc c) x)
       (ap₂ (λ (x y : ℕ). times T (inverse T x) y) (cover-number u) (cover-number v))
@@ -132,17 +138,20 @@ module _ (T : Table) (g : IsGroup T) (f : List ℕ) (below : AllBelow T.size f) 
       (cover-sources Q F C.answer is.answer some C.sources is.sources cover-central cover-left_out t (image 0) l)
 
   -- sums of rows
-  pub sum-in_level : (x y : List ℕ) → IsRow C.answer.presentation.prime (length C.sources) x → IsRow C.answer.presentation.prime (length C.sources) y
+  pub sum-in_level : (x y : List ℕ) → IsRow C.answer.presentation.prime (length C.sources) x
+      → IsRow C.answer.presentation.prime (length C.sources) y
       → InLevel T C.answer.presentation.prime (suc c)
       (times T (inverse T (value T (cover_elements T f C) (tails_word (rowed_cover C) (add_rows C.answer.presentation.prime x y))))
-      (times T (value T (cover_elements T f C) (tails_word (rowed_cover C) x)) (value T (cover_elements T f C) (tails_word (rowed_cover C) y))))
+      (times T (value T (cover_elements T f C) (tails_word (rowed_cover C) x))
+      (value T (cover_elements T f C) (tails_word (rowed_cover C) y))))
   sum-in_level x y row row' =
       let u : List ℤ = tails_word (rowed_cover C) x in
       let v : List ℤ = tails_word (rowed_cover C) y in
       let w : List ℤ = tails_word (rowed_cover C) (add_rows p x y) in
       subst (λ (z : ℕ). InLevel T p (suc c) z)
       (ap₂ (λ (a b : ℕ). times T (inverse T a) b) (cover-number w) (ap₂ (times T) (cover-number u) (cover-number v)))
-      (row_value-sum Q (rowed (rowed_cover C)) (cover-is Q F C.answer is.answer some C.sources is.sources cover-central cover-left_out).presentation some h
+      (row_value-sum Q (rowed (rowed_cover C))
+      (cover-is Q F C.answer is.answer some C.sources is.sources cover-central cover-left_out).presentation some h
       (cover-relators Q F C.answer is.answer some C.sources is.sources cover-central cover-left_out) x y row row')
 
   -- justified rows
@@ -150,7 +159,8 @@ module _ (T : Table) (g : IsGroup T) (f : List ℕ) (below : AllBelow T.size f) 
     justified-one : (x : List ℕ) → IsJustified (rowed_cover C) T f x → Q.same (value_in Q h (word_from C.answer.presentation.rank x)) Q.one
     justified-one x (inl e) = empty-justified Q F C.answer is.answer some C.sources is.sources cover-central cover-left_out x e
     justified-one x (inr e) =
-        word-justified Q F C.answer is.answer some C.sources is.sources cover-central cover-left_out (length-elements T g p (suc c) f below ∙ count) x e.word e.joined
+        word-justified Q F C.answer is.answer some C.sources is.sources cover-central cover-left_out
+        (length-elements T g p (suc c) f below ∙ count) x e.word e.joined
         (level-same_one T g p (suc c) (value_in Q F e.word)
         (subst (λ (z : ℕ). InLevel T p (suc c) z) (sym (given-number T g p (suc c) f below C.answer e.word ∙ e.zero))
         (table_level-zero T g p (suc c))))
@@ -163,7 +173,8 @@ module _ (T : Table) (g : IsGroup T) (f : List ℕ) (below : AllBelow T.size f) 
         → All (IsJustified (rowed_cover C) T f) rows → (x : List ℕ) → InSpan C.answer.presentation.prime (length C.sources) rows x
         → Q.same (value_in Q h (word_from C.answer.presentation.rank x)) Q.one
     span-is_one rows are all x s =
-        span-one Q (rowed (rowed_cover C)) (cover-is Q F C.answer is.answer some C.sources is.sources cover-central cover-left_out).presentation some h
+        span-one Q (rowed (rowed_cover C))
+        (cover-is Q F C.answer is.answer some C.sources is.sources cover-central cover-left_out).presentation some h
         (cover-relators Q F C.answer is.answer some C.sources is.sources cover-central cover-left_out) rows are (all_justified rows all) x s
 
     pub span-in_level : (rows : List (List ℕ)) → AreRows C.answer.presentation.prime (length C.sources) rows

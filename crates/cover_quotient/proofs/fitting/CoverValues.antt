@@ -1,6 +1,7 @@
 -- Values in a group of the words of a cover, where each tail is what its relation or image fails by, and what the relations
 -- and images without a tail fail by is one: what each relation and each image fails by is the value of its row.
-use Rattle.std.proofs.Common.{◌≡◌, ℕ, zero, suc, ◌+◌, ◌-◌, ◌<◌, Bool, cond, Option, None, Some, ℤ, List, ◌∷◌, ◌++◌, get_or, length, map, refl, ap, sym, ◌∙◌, arith, ne_eqb}
+use Rattle.std.proofs.Common.{◌≡◌, ℕ, zero, suc, ◌+◌, ◌-◌, ◌<◌, Bool, cond, Option, None, Some, ℤ, List, ◌∷◌, ◌++◌, get_or, length, map}
+use Rattle.std.proofs.Common.{refl, ap, sym, ◌∙◌, arith, ne_eqb}
 use Rattle.std.proofs.lemmas.List.{get_or-map}
 use Rattle.pq_base.specs.Presentation.{letter, word_from}
 use Rattle.pq_base.specs.Answer.{Answer, Definition, IsAnswer}
@@ -53,7 +54,9 @@ module _ (G : Group) (f : List G.carrier) (A : Answer) where
         (G.transitive (unit-value u (omega arith)) (same_from_equal G (ap (λ (x : Definition). value_in G f (entry_word A x)) same)))
 
     pub cover-entries : (d : Definition) → IsSourceOf A d
-        → G.same (value_in G f (entry_word A d)) (value_in G (with_tails G f A is (entry_elements ds)) (tails_word (cover_on A ds) (row_at (cover_on A ds) d)))
+        → G.same (value_in G f (entry_word A d))
+        (value_in G (with_tails G f A is (entry_elements ds)) (tails_word (cover_on A ds) (row_at (cover_on A ds) d)))
     cover-entries d s =
         G.transitive (by_place d s (place_in ds d) refl)
-        (same_from_equal G (ap (λ (x : List ℕ). value_in G h (word_from A.presentation.rank x)) (sym (row_at-source A ds d (source-by_name A is d s)))))
+        (same_from_equal G (ap (λ (x : List ℕ). value_in G h (word_from A.presentation.rank x))
+        (sym (row_at-source A ds d (source-by_name A is d s)))))

@@ -49,7 +49,8 @@ module _ (T : Table) (g : IsGroup T) (f : List ℕ) (h : AllBelow T.size f) wher
     entry-level (image zero) s = absurd s
     entry-level (image (suc i)) s =
         let w : List ℤ = get_or (image_words A) i [] in
-        let entry : value T f (entry_word A (image (suc i))) ≡ times T (inverse T (value T (spelled_elements T f A) (get_or (image_words A) i []))) (get_or f i 0) =
+        let entry : value T f (entry_word A (image (suc i)))
+        ≡ times T (inverse T (value T (spelled_elements T f A) (get_or (image_words A) i []))) (get_or f i 0) =
         quotient-number A w (pos (suc i) ∷ []) ∙ ap (times T (inverse T (value T (spelled_elements T f A) w))) (value-letter T g f h i) in
         subst (λ (x : ℕ). InLevel T A.presentation.prime c x) (sym entry) (fits.images i s)
     entry-level (commutator zero i) s = absurd s
@@ -72,7 +73,8 @@ module _ (T : Table) (g : IsGroup T) (f : List ℕ) (h : AllBelow T.size f) wher
       ∙ times-inverse-times T g b (times T a (inverse T b)) m (g.closed a (inverse T b) l i)
 
   module _ (A : Answer) (c : ℕ) (levels : (d : Definition) → IsSourceOf A d → InLevel T A.presentation.prime c (tail_element T f A d)) where
-    relator-level : (w u : List ℤ) → InLevel T A.presentation.prime c (value T f (inv (sub w (spelling_words A)) ++ sub u (spelling_words A)))
+    relator-level : (w u : List ℤ)
+        → InLevel T A.presentation.prime c (value T f (inv (sub w (spelling_words A)) ++ sub u (spelling_words A)))
         → InLevel T A.presentation.prime c (value T (spelled_elements T f A) (u ++ inv w))
     relator-level w u e =
         let p : ℕ = A.presentation.prime in
@@ -85,7 +87,8 @@ module _ (T : Table) (g : IsGroup T) (f : List ℕ) (h : AllBelow T.size f) wher
         let entry : value T f (inv (sub w (spelling_words A)) ++ sub u (spelling_words A)) ≡ times T (inverse T b) a =
         quotient-number A w (sub u (spelling_words A)) ∙ ap (times T (inverse T b)) (value-sub T g f h u (spelling_words A)) in
         let conjugate : InLevel T p c (times T (inverse T (inverse T b)) (times T (times T (inverse T b) a) (inverse T b))) =
-        table_level-conjugate T g p c (times T (inverse T b) a) (inverse T b) (subst (λ (x : ℕ). InLevel T p c x) entry e) (inverse-below T g b lb) in
+        table_level-conjugate T g p c (times T (inverse T b) a) (inverse T b) (subst (λ (x : ℕ). InLevel T p c x) entry e)
+        (inverse-below T g b lb) in
         let relator : value T (spelled_elements T f A) (u ++ inv w) ≡ times T a (inverse T b) =
         value-append T g E below u (inv w) ∙ ap (times T a) (value-inv T g E below w) in
         subst (λ (x : ℕ). InLevel T p c x) (turned_back a b la lb ∙ sym relator) conjugate

@@ -1,6 +1,7 @@
 -- What defines a generator fails by nothing, so a full cover leaves nothing out that fails; and where nothing left out fails,
 -- the images of a cover are exactly the elements given.
-use Rattle.std.proofs.Common.{◌≡◌, ◌≢◌, ℕ, suc, ◌<◌, ◌≤◌, ◌-◌, None, Some, ℤ, List, [], ◌∷◌, ◌++◌, get_or, length, map, refl, ap, ap₂, sym, ◌∙◌, arith, inl, inr}
+use Rattle.std.proofs.Common.{◌≡◌, ◌≢◌, ℕ, suc, ◌<◌, ◌≤◌, ◌-◌, None, Some, ℤ, List, [], ◌∷◌, ◌++◌, get_or, length, map, refl, ap, ap₂, sym}
+use Rattle.std.proofs.Common.{◌∙◌, arith, inl, inr}
 use Rattle.std.specs.List.{Contains}
 use Rattle.std.proofs.lemmas.Bool.{cases_eq}
 use Rattle.std.proofs.lemmas.List.{get_or_default}
@@ -41,7 +42,8 @@ module _ (T : Table) (g : IsGroup T) (f : List ℕ) (h : AllBelow T.size f) (A :
       ∙ inverse-times T g (value T f u) (value-below T g f h u)
 
   -- what is none of the sources
-  not_left_out : (d : Definition) → IsSourceOf A d → ((k : ℕ) → k < A.presentation.rank → definition_at A k ≢ d) → place_in (all_sources A) d ≡ None → ⊥
+  not_left_out : (d : Definition) → IsSourceOf A d → ((k : ℕ) → k < A.presentation.rank → definition_at A k ≢ d)
+      → place_in (all_sources A) d ≡ None → ⊥
   not_left_out d s none e =
       let among : Contains (all_sources A) d = ((each_source_once A is).members d).1 (source-by_name A is d s, none) in
       let inside : among.0 < length (all_sources A) = among.1 in
@@ -72,11 +74,13 @@ module _ (T : Table) (g : IsGroup T) where
     given-value : (w : List ℤ) → (value_in (table_group T g) (elements T f h) w).number ≡ value T f w
     given-value w = number-value (elements T f h) w ∙ ap (λ (l : List ℕ). value T l w) (numbers-elements T g 2 0 f h)
 
-    spelled-numbers : (words : List (List ℤ)) → numbers T g 2 0 (map (λ (w : List ℤ). value_in (table_group T g) (elements T f h) w) words) ≡ map (value T f) words
+    spelled-numbers : (words : List (List ℤ))
+        → numbers T g 2 0 (map (λ (w : List ℤ). value_in (table_group T g) (elements T f h) w) words) ≡ map (value T f) words
     spelled-numbers [] = refl
     spelled-numbers (w ∷ words) = ap₂ (λ (x : ℕ) (xs : List ℕ). x ∷ xs) (given-value w) (spelled-numbers words)
 
-    entry-numbers : (A : Answer) (ds : List Definition) → numbers T g 2 0 (entry_elements (table_group T g) (elements T f h) A ds) ≡ map (tail_element T f A) ds
+    entry-numbers : (A : Answer) (ds : List Definition)
+        → numbers T g 2 0 (entry_elements (table_group T g) (elements T f h) A ds) ≡ map (tail_element T f A) ds
     entry-numbers A [] = refl
     entry-numbers A (d ∷ ds) = ap₂ (λ (x : ℕ) (xs : List ℕ). x ∷ xs) (given-value (entry_word A d)) (entry-numbers A ds)
 
@@ -91,7 +95,8 @@ module _ (T : Table) (g : IsGroup T) where
       cover : IsRowedAnswer (cover_on A ds)
       cover = (covers_are_rowed_answers A ds is part).0
 
-      exact-number : (w : List ℤ) → (value_in (table_group T g) H w).number ≡ value T (spelled_elements T f A ++ map (tail_element T f A) ds) w
+      exact-number : (w : List ℤ)
+          → (value_in (table_group T g) H w).number ≡ value T (spelled_elements T f A ++ map (tail_element T f A) ds) w
       exact-number w =
           number-value H w
           ∙ ap (λ (l : List ℕ). value T l w)

@@ -53,7 +53,8 @@ module _ (T : Table) (g : IsGroup T) (f : List ℕ) (h : AllBelow T.size f) wher
       relators = λ r e. class (value T (spelled_elements T f A) r) (fits.relators r e);
       images = λ i l.
           let v : ℕ = value T (spelled_elements T f A) (get_or (image_words A) i []) in
-          let below : v < T.size = value-below T g (spelled_elements T f A) (values-below (spelling_words A)) (get_or (image_words A) i []) in
+          let below : v < T.size =
+          value-below T g (spelled_elements T f A) (values-below (spelling_words A)) (get_or (image_words A) i []) in
           sym (inverse-unique T g (inverse T v) (get_or f i 0) (inverse-below T g v below) (get_or-below T.size f i g.nonempty h)
           (class (times T (inverse T v) (get_or f i 0)) (fits.images i l))
           ∙ inverse-inverse T g v below);

@@ -8,10 +8,12 @@ use Rattle.p_cover.specs.RowedAnswer.{tails_word}
 use Rattle.p_cover.specs.Sources.{place_in}
 use Rattle.p_cover.specs.Covers.{rowed_cover}
 use Rattle.cover_quotient.specs.Fits.{cover_elements}
-use Rattle.cover_quotient.specs.FittingLaws.{CoversFit, DefinitionsHold, FullCoversLeaveNothingOut, FullCoversFit, ImagesAreExact, JustifiedRowsFit, OneClassFits, NoTailKeptFits}
+use Rattle.cover_quotient.specs.FittingLaws.{CoversFit, DefinitionsHold, FullCoversLeaveNothingOut, FullCoversFit, ImagesAreExact}
+use Rattle.cover_quotient.specs.FittingLaws.{JustifiedRowsFit, OneClassFits, NoTailKeptFits}
 use Rattle.pc_presentation.proofs.rows.RowsCentral.{row_sum-add_rows}
 use Rattle.cover_quotient.proofs.carried_rows.CarriedRows.{row_from_normal}
-use Rattle.cover_quotient.proofs.fitting.CoverFits.{relator-in_level, image-in_level, joined-in_level, sum-in_level, span-in_level, tail-in_level}
+use Rattle.cover_quotient.proofs.fitting.CoverFits.{relator-in_level, image-in_level, joined-in_level, sum-in_level, span-in_level}
+use Rattle.cover_quotient.proofs.fitting.CoverFits.{tail-in_level}
 use Rattle.cover_quotient.proofs.fitting.NextFits.{next-fits, same-fits}
 use Rattle.cover_quotient.proofs.fitting.ExactImages.{definition-holds, left_out-holds, exact-image}
 
@@ -35,7 +37,8 @@ covers_fit T f c C h =
           (times T (inverse T (value T e (tails_word X z))) (times T (value T e (tails_word X x)) (value T e (tails_word X y)))))
           (sym (row_sum-add_rows C.answer.presentation.prime x y (n.count ∙ sym m.count)))
           (sum-in_level T g f below c C is some left fits x y
-          (row_from_normal C.answer.presentation.prime (length C.sources) x n) (row_from_normal C.answer.presentation.prime (length C.sources) y m));
+          (row_from_normal C.answer.presentation.prime (length C.sources) x n)
+          (row_from_normal C.answer.presentation.prime (length C.sources) y m));
     }
 
 pub definitions_hold : DefinitionsHold
@@ -57,14 +60,17 @@ images_are_exact T f C g below is offered left i l =
 
 pub justified_rows_fit : JustifiedRowsFit
 justified_rows_fit T f c C rows h j x s =
-    span-in_level T h.group f h.elements c C h.cover (offered-two C.answer.presentation.prime h.prime) h.left_out h.fits j.count rows j.are j.justified x s
+    span-in_level T h.group f h.elements c C h.cover (offered-two C.answer.presentation.prime h.prime) h.left_out h.fits j.count rows j.are
+    j.justified x s
 
 pub one_class_fits : OneClassFits
 one_class_fits T f c C rows bs h j basis may =
-    next-fits T h.group f h.elements c C h.cover (offered-two C.answer.presentation.prime h.prime) h.left_out h.fits j.count bs basis.reduced
+    next-fits T h.group f h.elements c C h.cover (offered-two C.answer.presentation.prime h.prime) h.left_out h.fits j.count bs
+    basis.reduced
     rows j.are j.justified basis.each may
 
 pub no_tail_kept_fits : NoTailKeptFits
 no_tail_kept_fits T f c C rows bs h j basis none =
-    same-fits T h.group f h.elements c C h.cover (offered-two C.answer.presentation.prime h.prime) h.left_out h.fits j.count bs basis.reduced
+    same-fits T h.group f h.elements c C h.cover (offered-two C.answer.presentation.prime h.prime) h.left_out h.fits j.count bs
+    basis.reduced
     rows j.are j.justified basis.each none

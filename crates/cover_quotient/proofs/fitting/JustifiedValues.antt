@@ -51,7 +51,8 @@ module _ (G : Group) (f : List G.carrier) (A : Answer) (is : IsAnswer A) (some :
 
   -- where there is an element for each name
   module _ (count : length f ≡ length A.names) where
-    image-everywhere : (i : ℕ) → G.same (get_or (map (λ (w : List ℤ). value_in G h w) (rowed_images (cover_on A ds))) i G.one) (get_or f i G.one)
+    image-everywhere : (i : ℕ)
+        → G.same (get_or (map (λ (w : List ℤ). value_in G h w) (rowed_images (cover_on A ds))) i G.one) (get_or f i G.one)
     image-everywhere i =
         G.transitive (same_from_equal G (entry-map (λ (w : List ℤ). value_in G h w) (rowed_images (cover_on A ds)) i []))
         (elim (cases_lt i (length A.images)) [
@@ -68,7 +69,8 @@ module _ (G : Group) (f : List G.carrier) (A : Answer) (is : IsAnswer A) (some :
         G.transitive (value_in-sub G h w (rowed_images (cover_on A ds)))
         (value_in-everywhere G (map (λ (u : List ℤ). value_in G h u) (rowed_images (cover_on A ds))) f image-everywhere w)
 
-    pub word-justified : (x : List ℕ) (w : List ℤ) → Joined (flat (rowed (cover_on A ds))) (word_from A.presentation.rank x) (sub w (rowed_images (cover_on A ds)))
+    pub word-justified : (x : List ℕ) (w : List ℤ)
+        → Joined (flat (rowed (cover_on A ds))) (word_from A.presentation.rank x) (sub w (rowed_images (cover_on A ds)))
         → G.same (value_in G f w) G.one
         → G.same (value_in G (with_tails G f A is (entry_elements G f A ds)) (word_from A.presentation.rank x)) G.one
     word-justified x w c e = G.transitive (cover-joined G f A is some ds part are left_out c) (G.transitive (substituted-value w) e)

@@ -44,7 +44,8 @@ module _ (T : Table) (g : IsGroup T) (f : List ℕ) (below : AllBelow T.size f) 
     (some : 1 < C.answer.presentation.prime) (left : LeftOutFit T f c C) (fits : Fits T f c C.answer)
     (count : length f ≡ length C.answer.names) (bs : List BasisRow) (reduced : IsReduced C.answer.presentation.prime (length C.sources) bs)
     (rows : List (List ℕ)) (are : AreRows C.answer.presentation.prime (length C.sources) rows)
-    (all : All (IsJustified (rowed_cover C) T f) rows) (each : EachInSpan C.answer.presentation.prime (length C.sources) rows (rows_of bs)) where
+    (all : All (IsJustified (rowed_cover C) T f) rows)
+    (each : EachInSpan C.answer.presentation.prime (length C.sources) rows (rows_of bs)) where
   abbrev p : ℕ
   p = C.answer.presentation.prime
 
@@ -145,4 +146,5 @@ module _ (T : Table) (g : IsGroup T) (f : List ℕ) (below : AllBelow T.size f) 
       entry-trivial d s =
           subst (λ (x : ℕ). InLevel T p (suc c) x) (given-number T g p (suc c) f below A (entry_word A d))
           (same_one-level T g p (suc c) (value_in Q F (entry_word A d))
-          (subst (λ (x : List ℕ). Q.same (value_in Q F (entry_word C.answer d)) (value_in Q h' (tails_word Y x))) (no_row d s) (entries d s)))
+          (subst (λ (x : List ℕ). Q.same (value_in Q F (entry_word C.answer d)) (value_in Q h' (tails_word Y x))) (no_row d s)
+          (entries d s)))

@@ -1,7 +1,8 @@
 -- Values in a group of the words of the flat reading of an answer with rows, where the generators are what they spell, the
 -- tails are central elements of order p, and what each relation and each image fails by is the value of its row. Then every
 -- relator has value one, and the images have the values given.
-use Rattle.std.proofs.Common.{◌≡◌, ℕ, zero, suc, ◌+◌, ◌-◌, ◌<◌, ℤ, pos, List, [], ◌∷◌, ◌++◌, get_or, length, map, ap, sym, ◌∙◌, subst, arith, inl, inr}
+use Rattle.std.proofs.Common.{◌≡◌, ℕ, zero, suc, ◌+◌, ◌-◌, ◌<◌, ℤ, pos, List, [], ◌∷◌, ◌++◌, get_or, length, map, ap, sym, ◌∙◌, subst}
+use Rattle.std.proofs.Common.{arith, inl, inr}
 use Rattle.std.proofs.lemmas.Bool.{cases_lt}
 use Rattle.std.proofs.lemmas.List.{length-map, get_or_append_left, get_or-append-add}
 use Rattle.std.proofs.Math.ListN.{get_or-map}
@@ -10,8 +11,11 @@ use Rattle.pq_base.specs.Presentation.{IsNormal, IsRelatorOf, letter, normal_wor
 use Rattle.pq_base.specs.Presentation.IsRelatorOf.{power_relator, commutator_relator}
 use Rattle.pq_base.specs.Answer.{Answer, Definition, IsAnswer, AreNormal, image_words}
 use Rattle.pq_base.specs.Answer.Definition.{image, commutator, power}
-use Rattle.pq_base.proofs.words.LetterLaws.{HasLetters-letter, HasLetters-copies, HasLetters-comm, HasLetters-normal_word, HasLetters-power_word, HasLetters-commutator_word}
-use Rattle.pq_base.proofs.groups.Groups.{Group, value_in, power_in, same_from_equal, times-same_left, times_in-inverse-times, power_in-same, commutator_in-same, value_in-append, value_in-letter, value_in-inv, value_in-copies, value_in-comm, value_in-sub, value_in-same}
+use Rattle.pq_base.proofs.words.LetterLaws.{HasLetters-letter, HasLetters-copies, HasLetters-comm, HasLetters-normal_word}
+use Rattle.pq_base.proofs.words.LetterLaws.{HasLetters-power_word, HasLetters-commutator_word}
+use Rattle.pq_base.proofs.groups.Groups.{Group, value_in, power_in, same_from_equal, times-same_left, times_in-inverse-times, power_in-same}
+use Rattle.pq_base.proofs.groups.Groups.{commutator_in-same, value_in-append, value_in-letter, value_in-inv, value_in-copies, value_in-comm}
+use Rattle.pq_base.proofs.groups.Groups.{value_in-sub, value_in-same}
 use Rattle.pq_base.proofs.groups.GroupCommute.{Commute, commutator_in-commute}
 use Rattle.pq_base.proofs.NormalLists.{normal-entry}
 use Rattle.pc_presentation.specs.Rowed.{IsRowed, power_row, commutator_row, flat}
@@ -25,7 +29,8 @@ use Rattle.cover_quotient.proofs.fitting.FitsStart.{length-spelling_words}
 pub image_length : (A : Answer) → IsAnswer A → (i : ℕ) → i < length A.images → length (get_or A.images i []) ≡ A.presentation.rank
 image_length A is i l = (normal-entry A.presentation.prime A.presentation.rank A.images i is.images l).count
 
-pub image_word-letters : (A : Answer) → IsAnswer A → (i : ℕ) → i < length A.images → HasLetters A.presentation.rank (get_or (image_words A) i [])
+pub image_word-letters : (A : Answer) → IsAnswer A → (i : ℕ) → i < length A.images
+    → HasLetters A.presentation.rank (get_or (image_words A) i [])
 image_word-letters A is i l =
     let c = image_length A is i l in
     subst (λ (w : List ℤ). HasLetters A.presentation.rank w) (sym (get_or-map normal_word A.images i []))
@@ -53,7 +58,8 @@ module _ (G : Group) (f : List G.carrier) where
     abbrev pub with_tails : List G.carrier
     with_tails = spelled_in A ++ tails
 
-    pub value_in-with_tails : (w : List ℤ) → HasLetters A.presentation.rank w → G.same (value_in G with_tails w) (value_in G (spelled_in A) w)
+    pub value_in-with_tails : (w : List ℤ) → HasLetters A.presentation.rank w
+        → G.same (value_in G with_tails w) (value_in G (spelled_in A) w)
     value_in-with_tails w h =
         let c = length-spelled_in A is in
         value_in-same G A.presentation.rank (spelled_in A ++ tails) (spelled_in A)
@@ -102,11 +108,13 @@ module _ (G : Group) (f : List G.carrier) (Y : RowedAnswer) (is : IsAnswer Y.ans
 
   -- the images
   pub images-value : (i : ℕ) → i < length Y.answer.images
-      → G.same (value_in G (with_tails G f Y.answer is tails) (get_or (image_words Y.answer) i [] ++ tails_word Y (get_or Y.image_rows i [])))
+      → G.same (value_in G (with_tails G f Y.answer is tails)
+      (get_or (image_words Y.answer) i [] ++ tails_word Y (get_or Y.image_rows i [])))
       (get_or f i G.one)
   images-value i l =
       let w : List ℤ = get_or (image_words Y.answer) i [] in
-      let left : G.same (value_in G f (entry_word Y.answer (image (suc i)))) (G.times (G.inverse (value_in G (spelled_in G f Y.answer) (get_or (image_words Y.answer) i []))) (get_or f i G.one)) =
+      let left : G.same (value_in G f (entry_word Y.answer (image (suc i))))
+      (G.times (G.inverse (value_in G (spelled_in G f Y.answer) (get_or (image_words Y.answer) i []))) (get_or f i G.one)) =
       G.transitive (quotient-value G f Y.answer w (pos (suc i) ∷ []))
       (times-same_left G (G.inverse (value_in G (spelled_in G f Y.answer) w)) (value_in-letter G f (pos (suc i)))) in
       side-value G f Y.answer is tails w (tails_word Y (get_or Y.image_rows i [])) (get_or f i G.one) (image_word-letters Y.answer is i l)
@@ -128,7 +136,8 @@ module _ (G : Group) (f : List G.carrier) (Y : RowedAnswer) (is : IsAnswer Y.ans
       | inr after ↦
           let t : ℕ = i - n in
           let place : n + t ≡ i = omega arith in
-          subst (λ (j : ℕ). G.same (value_in G h (copies (letter j) Y.answer.presentation.prime)) (value_in G h (power_word (flat (rowed Y)) j))) place
+          subst (λ (j : ℕ). G.same (value_in G h (copies (letter j) Y.answer.presentation.prime))
+          (value_in G h (power_word (flat (rowed Y)) j))) place
           (subst (λ (w : List ℤ). G.same (value_in G h (copies (letter (n + t)) Y.answer.presentation.prime)) (value_in G h w))
           (sym (power_word-tail (rowed Y) rows t (omega arith)))
           (G.transitive (value_in-copies G h (letter (n + t)) Y.answer.presentation.prime)

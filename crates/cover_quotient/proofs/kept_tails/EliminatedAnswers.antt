@@ -45,7 +45,8 @@ module _ (C : CoverOf) (units : HasUnitRows C) (big : 1 < C.answer.presentation.
   pub modulo-rowed : IsRowedAnswer (cover_modulo C bs)
   modulo-rowed = combined-rowed C K units big are count kept
 
-  pub kept_source-is : (t : ℕ) → t < length (kept_columns (length C.sources) bs) → IsSourceOf C.answer (get_or (kept_sources C bs) t (image 0))
+  pub kept_source-is : (t : ℕ) → t < length (kept_columns (length C.sources) bs)
+      → IsSourceOf C.answer (get_or (kept_sources C bs) t (image 0))
   kept_source-is = source-is C K units big are count kept
 
   pub length-kept_sources : length (kept_sources C bs) ≡ length (kept_columns (length C.sources) bs)

@@ -37,7 +37,8 @@ entries_may A ds [] all = All-nil (MayDefine A 0)
 entries_may A ds (c ∷ cs) all =
     All-cons (MayDefine A 0) (get_or ds (c - 1) (image 0)) (sources_at cs ds) (entry_may A ds (c - 1) all) (entries_may A ds cs all)
 
-pub first_tails_may : (C : CoverOf) (bs : List BasisRow) → class_of C.answer ≡ 0 → IsPartOf C.sources (all_sources C.answer) → KeptMayDefine C bs
+pub first_tails_may : (C : CoverOf) (bs : List BasisRow) → class_of C.answer ≡ 0 → IsPartOf C.sources (all_sources C.answer)
+    → KeptMayDefine C bs
 first_tails_may C bs none part =
     subst (λ (k : ℕ). All (MayDefine C.answer k) (sources_at (kept_columns (length C.sources) bs) C.sources)) (sym none)
     (entries_may C.answer C.sources (kept_columns (length C.sources) bs) (All-part (MayDefine C.answer 0) part (wanted_may C.answer none)))

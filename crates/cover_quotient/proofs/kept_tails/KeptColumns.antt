@@ -1,5 +1,6 @@
 -- The kept columns are the columns without a pivot, in rising order, and with the pivots they are all columns.
-use Rattle.std.proofs.Common.{◌≡◌, ◌⊎◌, ℕ, suc, ◌+◌, ◌-◌, ◌<◌, ◌≤◌, ◌||◌, Bool, true, false, not, eqb, List, [], ◌∷◌, length, get_or, inl, inr, ⊎_elim, refl, ap, sym, arith, eq-eqb}
+use Rattle.std.proofs.Common.{◌≡◌, ◌⊎◌, ℕ, suc, ◌+◌, ◌-◌, ◌<◌, ◌≤◌, ◌||◌, Bool, true, false, not, eqb, List, [], ◌∷◌, length, get_or, inl}
+use Rattle.std.proofs.Common.{inr, ⊎_elim, refl, ap, sym, arith, eq-eqb}
 use borrow.Author.Tests.{eqb-true}
 use Rattle.std.specs.List.{All, Contains}
 use Rattle.std.specs.List.Sorted.{IsStrictlyIncreasing}
@@ -65,7 +66,9 @@ module _ (width : ℕ) (bs : List BasisRow) where
       record {
         first = between.first;
         last = between.last;
-        no_pivot = λ h. not_true (is_listed (get_or (kept_columns width bs) k d) (pivots_of bs)) passes (pivot_listed (get_or (kept_columns width bs) k d) bs h);
+        no_pivot =
+            λ h. not_true (is_listed (get_or (kept_columns width bs) k d) (pivots_of bs)) passes
+            (pivot_listed (get_or (kept_columns width bs) k d) bs h);
       }
 
   pub kept_at : (i : ℕ) → i < length (kept_columns width bs) → IsKept width bs (get_or (kept_columns width bs) i 0)
@@ -76,7 +79,8 @@ module _ (width : ℕ) (bs : List BasisRow) where
   contains_kept c h =
       let first = h.first in
       let last = h.last in
-      let not_listed : is_listed c (pivots_of bs) ≡ false = false_from_ne_true (is_listed c (pivots_of bs)) (λ e. h.no_pivot (listed_pivot c bs e)) in
+      let not_listed : is_listed c (pivots_of bs) ≡ false =
+      false_from_ne_true (is_listed c (pivots_of bs)) (λ e. h.no_pivot (listed_pivot c bs e)) in
       Contains-filter kept (numbers_from 1 width) c (Contains-numbers_from 1 width c first (omega arith)) (ap not not_listed)
 
   numbers_rise : IsStrictlyIncreasing (numbers_from 1 width)

@@ -61,7 +61,8 @@ module _ (p width : ℕ) (some : 1 < p) (bs : List BasisRow) (reduced : IsReduce
       ∙ ap (combine p (length K) y) units-mapped
       ∙ combine-unit_rows p (length K) y positive h
 
-  pub carried-is_row : (x : List ℕ) → IsRow p (length (kept_columns width bs)) (carried p (length (kept_columns width bs)) (kept_rows p width bs) x)
+  pub carried-is_row : (x : List ℕ)
+      → IsRow p (length (kept_columns width bs)) (carried p (length (kept_columns width bs)) (kept_rows p width bs) x)
   carried-is_row x = carried-row p (length K) (omega arith) (kept_rows p width bs) x (kept_rows-are_rows p width some bs reduced)
 
   pub carried-in_span : (x : List ℕ) → IsRow p width x

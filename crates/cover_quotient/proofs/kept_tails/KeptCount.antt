@@ -1,5 +1,6 @@
 -- There are as many kept columns as the basis has rows less than columns.
-use Rattle.std.proofs.Common.{◌≡◌, ℕ, zero, suc, ◌+◌, ◌<◌, ◌≤◌, ◌||◌, Bool, true, false, not, cond, eqb, List, [], ◌∷◌, length, filter, inl, inr, ⊎_elim, refl, ap, ◌∙◌, subst, arith, eq-eqb, ne_eqb}
+use Rattle.std.proofs.Common.{◌≡◌, ℕ, zero, suc, ◌+◌, ◌<◌, ◌≤◌, ◌||◌, Bool, true, false, not, cond, eqb, List, [], ◌∷◌, length, filter, inl}
+use Rattle.std.proofs.Common.{inr, ⊎_elim, refl, ap, ◌∙◌, subst, arith, eq-eqb, ne_eqb}
 use borrow.Author.Tests.{eqb-true}
 use Rattle.std.proofs.lemmas.Bool.{cases_eq, false_from_ne_true}
 use Rattle.std.proofs.lemmas.List.Filters.{length-filter_both}
@@ -29,7 +30,8 @@ length-filter_either f g apart (x ∷ xs) =
 none_equal : (k n a : ℕ) → a < k → length (filter (λ c. eqb c a) (numbers_from k n)) ≡ 0
 none_equal k zero a h = refl
 none_equal k (suc n) a h =
-    ap (λ (t : Bool). length (cond t (k ∷ filter (λ c. eqb c a) (numbers_from (suc k) n)) (filter (λ c. eqb c a) (numbers_from (suc k) n)))) (ne_eqb k a (λ e. omega arith))
+    ap (λ (t : Bool). length (cond t (k ∷ filter (λ c. eqb c a) (numbers_from (suc k) n)) (filter (λ c. eqb c a) (numbers_from (suc k) n))))
+    (ne_eqb k a (λ e. omega arith))
     ∙ none_equal (suc k) n a (omega arith)
 
 one_equal : (k n a : ℕ) → k ≤ a → a < k + n → length (filter (λ c. eqb c a) (numbers_from k n)) ≡ 1
@@ -38,10 +40,12 @@ one_equal k (suc n) a h l =
     let rest : List ℕ = filter (λ c. eqb c a) (numbers_from (suc k) n) in
     ⊎_elim
     (λ same.
-    ap (λ (t : Bool). length (cond t (k ∷ filter (λ c. eqb c a) (numbers_from (suc k) n)) (filter (λ c. eqb c a) (numbers_from (suc k) n)))) (eq-eqb k a same)
+    ap (λ (t : Bool). length (cond t (k ∷ filter (λ c. eqb c a) (numbers_from (suc k) n)) (filter (λ c. eqb c a) (numbers_from (suc k) n))))
+    (eq-eqb k a same)
     ∙ ap suc (none_equal (suc k) n a (omega arith)))
     (λ ne.
-    ap (λ (t : Bool). length (cond t (k ∷ filter (λ c. eqb c a) (numbers_from (suc k) n)) (filter (λ c. eqb c a) (numbers_from (suc k) n)))) (ne_eqb k a ne)
+    ap (λ (t : Bool). length (cond t (k ∷ filter (λ c. eqb c a) (numbers_from (suc k) n)) (filter (λ c. eqb c a) (numbers_from (suc k) n))))
+    (ne_eqb k a ne)
     ∙ one_equal (suc k) n a (let later : suc k ≤ a = omega arith in later) (omega arith))
     (cases_eq k a)
 
@@ -55,7 +59,8 @@ module _ (p width : ℕ) where
       omega arith
   not_again c (b ∷ bs) reduced none (inr h) = not_again c bs reduced.2 none.1 h
 
-  count_pivots : (bs : List BasisRow) → IsReduced p width bs → length (filter (λ c. is_listed c (pivots_of bs)) (numbers_from 1 width)) ≡ length bs
+  count_pivots : (bs : List BasisRow) → IsReduced p width bs
+      → length (filter (λ c. is_listed c (pivots_of bs)) (numbers_from 1 width)) ≡ length bs
   count_pivots [] reduced = none_pass (numbers_from 1 width)
     where
       none_pass : (xs : List ℕ) → length (filter (λ c. is_listed c (pivots_of [])) xs) ≡ 0
@@ -68,7 +73,8 @@ module _ (p width : ℕ) where
       let apart : (c : ℕ) → eqb c b.pivot ≡ true → is_listed c (pivots_of bs) ≡ false =
       λ c e.
       false_from_ne_true (is_listed c (pivots_of bs))
-      (λ listed. not_again b.pivot bs reduced.2 reduced.1.others (subst (λ (d : ℕ). IsPivot d bs) (eqb-true c b.pivot e) (listed_pivot c bs listed))) in
+      (λ listed. not_again b.pivot bs reduced.2 reduced.1.others
+      (subst (λ (d : ℕ). IsPivot d bs) (eqb-true c b.pivot e) (listed_pivot c bs listed))) in
       let one : length (filter (λ c. eqb c b.pivot) (numbers_from 1 width)) ≡ 1 = one_equal 1 width b.pivot least (omega arith) in
       let rest = count_pivots bs reduced.2 in
       let both = length-filter_either (λ c. eqb c b.pivot) (λ c. is_listed c (pivots_of bs)) apart (numbers_from 1 width) in
@@ -78,5 +84,6 @@ module _ (p width : ℕ) where
   length-kept_columns bs reduced =
       let pivots = count_pivots bs reduced in
       let numbers = length-numbers_from 1 width in
-      let both = length-filter_both (λ c. is_listed c (pivots_of bs)) (λ c. not (is_listed c (pivots_of bs))) (λ c. refl) (numbers_from 1 width) in
+      let both =
+      length-filter_both (λ c. is_listed c (pivots_of bs)) (λ c. not (is_listed c (pivots_of bs))) (λ c. refl) (numbers_from 1 width) in
       omega arith

@@ -9,7 +9,8 @@ use Rattle.pq_base.specs.Canonical.{numbers_from}
 use Rattle.fp_rows.specs.Rows.{IsRow, add_rows, scale_row}
 use Rattle.fp_rows.specs.Row.{at_column}
 use Rattle.pq_base.proofs.UnitLaws.{get_or-zeros}
-use Rattle.fp_rows.proofs.EntryLaws.{get_or-add_rows, get_or-scale_row, at_column-zeros, at_column-below, IsZeroRow-is_zeros, IsZeroRow-from_entries}
+use Rattle.fp_rows.proofs.EntryLaws.{get_or-add_rows, get_or-scale_row, at_column-zeros, at_column-below, IsZeroRow-is_zeros}
+use Rattle.fp_rows.proofs.EntryLaws.{IsZeroRow-from_entries}
 use Rattle.fp_rows.proofs.RowLaws.{IsRow-zeros}
 use Rattle.fp_echelon.specs.Span.{combine, AreRows, InSpan}
 use Rattle.fp_echelon.specs.Reduced.{BasisRow, rows_of, IsReduced}
@@ -46,7 +47,8 @@ entries_at-add_rows p (c ∷ cs) x y h e =
 
 entries_at-scale_row : (p k : ℕ) (cs x : List ℕ) → 0 < p → entries_at cs (scale_row p k x) ≡ scale_row p k (entries_at cs x)
 entries_at-scale_row p k [] x h = refl
-entries_at-scale_row p k (c ∷ cs) x h = ap₂ (λ (n : ℕ) (l : List ℕ). n ∷ l) (get_or-scale_row p k x (c - 1) h) (entries_at-scale_row p k cs x h)
+entries_at-scale_row p k (c ∷ cs) x h =
+    ap₂ (λ (n : ℕ) (l : List ℕ). n ∷ l) (get_or-scale_row p k x (c - 1) h) (entries_at-scale_row p k cs x h)
 
 pub entries_at-zeros : (cs : List ℕ) (n : ℕ) → entries_at cs (zeros n) ≡ zeros (length cs)
 entries_at-zeros [] n = refl
@@ -70,7 +72,8 @@ AreRows-map p from to f (r ∷ rows) keeps are = (keeps r are.0, AreRows-map p f
 
 pub length-kept_rows : (p width : ℕ) (bs : List BasisRow) → length (kept_rows p width bs) ≡ width
 length-kept_rows p width bs =
-    length-map (numbers_from 1 width) (λ (t : ℕ). entries_at (kept_columns width bs) (reduce_by p bs (unit_row width t))) ∙ length-numbers_from 1 width
+    length-map (numbers_from 1 width) (λ (t : ℕ). entries_at (kept_columns width bs) (reduce_by p bs (unit_row width t)))
+    ∙ length-numbers_from 1 width
 
 module _ (p width : ℕ) (some : 1 < p) (bs : List BasisRow) (reduced : IsReduced p width bs) where
   -- the kept entries of the representative
@@ -139,7 +142,8 @@ module _ (p width : ℕ) (some : 1 < p) (bs : List BasisRow) (reduced : IsReduce
 
   -- a row is carried to zero exactly where it is in the span
   pub carried-zero : (x : List ℕ) → IsRow p width x
-      → (carried p (length (kept_columns width bs)) (kept_rows p width bs) x ≡ zeros (length (kept_columns width bs))) ↔ InSpan p width (rows_of bs) x
+      → (carried p (length (kept_columns width bs)) (kept_rows p width bs) x ≡ zeros (length (kept_columns width bs)))
+      ↔ InSpan p width (rows_of bs) x
   carried-zero x row =
       let r = IsRepresentative-reduce_by p width some bs x reduced row in (
         λ e. InSpan-from_representative p width some bs x (reduce_by p bs x) reduced row r (kept_zero x row (sym (carried-kept x row) ∙ e)),

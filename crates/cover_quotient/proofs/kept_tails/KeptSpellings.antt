@@ -55,7 +55,8 @@ module _ (A : Answer) (is : IsAnswer A) where
       → entry_word A d ≡ spelled A.presentation.prime (spelling_words A) d
   defining_entry d s h =
       entry_word-spelled A d s
-      ∙ ap (λ (w : List ℤ). inv (sub w (spelling_words A)) ++ spelled A.presentation.prime (spelling_words A) d) (defining_side (class_of A) d refl s h)
+      ∙ ap (λ (w : List ℤ). inv (sub w (spelling_words A)) ++ spelled A.presentation.prime (spelling_words A) d)
+      (defining_side (class_of A) d refl s h)
 
 map-append : (T : Table) (f : List ℕ) (xs ys : List (List ℤ)) → map (value T f) (xs ++ ys) ≡ map (value T f) xs ++ map (value T f) ys
 map-append T f [] ys = refl

@@ -1,6 +1,7 @@
 -- A kept tail whose row is in the span of the rows of the qualifying relations comes from one of them: else they all stand
 -- before it, so their rows are 0 at its place, where its own row is 1.
-use Rattle.std.proofs.Common.{◌≡◌, ◌≢◌, ℕ, zero, suc, ◌+◌, ◌-◌, ◌*◌, ◌%◌, ◌<◌, ◌≤◌, Bool, true, false, ◌&&◌, eqb, Option, None, Some, List, [], ◌∷◌, length, get_or, filter, inl, inr, ⊎_elim, refl, ap, ap₂, sym, ◌∙◌, subst, arith, mod-eq_of_lt}
+use Rattle.std.proofs.Common.{◌≡◌, ◌≢◌, ℕ, zero, suc, ◌+◌, ◌-◌, ◌*◌, ◌%◌, ◌<◌, ◌≤◌, Bool, true, false, ◌&&◌, eqb, Option, None, Some, List}
+use Rattle.std.proofs.Common.{[], ◌∷◌, length, get_or, filter, inl, inr, ⊎_elim, refl, ap, ap₂, sym, ◌∙◌, subst, arith, mod-eq_of_lt}
 use Rattle.std.specs.List.{All, AllPairs}
 use Rattle.std.proofs.lemmas.Bool.{cases_Bool, cases_eq, eqb-true, false≢true}
 use Rattle.std.proofs.lemmas.List.Elements.{All-head, All-tail, All-append, All-map, All-filter, filter_passes}
@@ -129,24 +130,28 @@ module _ (C : CoverOf) (bs : List BasisRow) (basis : IsBasisOver C bs) (big : 1 
         basis.cover.sources (qualifying_sources_come_first C.answer some)
 
     -- a kept tail up to which a qualifying source stands
-    before_qualifying : (i t : ℕ) → i < length K → column i ≤ t → t ≤ q → is_qualifying A (class_of A) (get_or C.sources (t - 1) (image 0)) ≡ true
+    before_qualifying : (i t : ℕ) → i < length K → column i ≤ t → t ≤ q
+        → is_qualifying A (class_of A) (get_or C.sources (t - 1) (image 0)) ≡ true
         → is_qualifying A (class_of A) (source i) ≡ true
     before_qualifying i t l up within h =
         let at = kept_at q bs i l in
         let first = at.first in
         ⊎_elim
-        (λ (same : column i ≡ t). subst (λ (c : ℕ). is_qualifying C.answer (class_of C.answer) (get_or C.sources (c - 1) (image 0)) ≡ true) (sym same) h)
+        (λ (same : column i ≡ t).
+        subst (λ (c : ℕ). is_qualifying C.answer (class_of C.answer) (get_or C.sources (c - 1) (image 0)) ≡ true) (sym same) h)
         (λ (other : column i ≢ t). ordered (column i - 1) (t - 1) (image 0) (omega arith) (omega arith) h)
         (cases_eq (column i) t)
 
     -- the rows of the qualifying relations have 0 at a kept tail that doesn't qualify
     module _ (i : ℕ) (l : i < length (kept_columns (length C.sources) bs))
-        (isnt : is_qualifying C.answer (class_of C.answer) (get_or C.sources (get_or (kept_columns (length C.sources) bs) i 0 - 1) (image 0)) ≡ false) where
+        (isnt : is_qualifying C.answer (class_of C.answer)
+        (get_or C.sources (get_or (kept_columns (length C.sources) bs) i 0 - 1) (image 0)) ≡ false) where
       place-zero : (o : Option ℕ) (d : Source) → place_in C.sources d ≡ o → is_qualifying A (class_of A) d ≡ true
           → get_or (carried p (length K) rows (row_of q o)) i 0 ≡ 0
       place-zero None d e h =
           ap (λ (x : List ℕ). get_or x i 0) (carry-zeros (rowed (rowed_cover C)) units.rowed.presentation (omega arith) (length K) rows are)
-          ∙ (let one : suc i - 1 ≡ i = omega arith in ap (λ (m : ℕ). get_or (row_of (length K) None) m 0) (sym one) ∙ at_column-zeros (length K) (suc i))
+          ∙ (let one : suc i - 1 ≡ i = omega arith in
+          ap (λ (m : ℕ). get_or (row_of (length K) None) m 0) (sym one) ∙ at_column-zeros (length K) (suc i))
       place-zero (Some t) d e h =
           let has = place_from-has 1 C.sources d t e in
           let last = has.last in
@@ -159,7 +164,8 @@ module _ (C : CoverOf) (bs : List BasisRow) (basis : IsBasisOver C bs) (big : 1 
           absurd (false≢true (sym isnt ∙ there)))
           (cases_eq (get_or (carried p (length K) rows (unit_row q t)) i 0) 0)
 
-      relation-zero : (d : Source) → IsSource A d → is_qualifying A (class_of A) d ≡ true → at_column (row_at (cover_modulo C bs) d) (suc i) ≡ 0
+      relation-zero : (d : Source) → IsSource A d → is_qualifying A (class_of A) d ≡ true
+          → at_column (row_at (cover_modulo C bs) d) (suc i) ≡ 0
       relation-zero d s h =
           let one : suc i - 1 ≡ i = omega arith in
           ap (λ (m : ℕ). get_or (row_at (cover_modulo C bs) d) m 0) one
@@ -195,7 +201,8 @@ module _ (C : CoverOf) (bs : List BasisRow) (basis : IsBasisOver C bs) (big : 1 
           let none : at_column (row_at (cover_modulo C bs) (source i)) (suc i) ≡ 0 =
           column-in_span p (length K) (suc i) big (qualifying_rows (cover_modulo C bs) (class_of A)) those (qualifying-zero i l isnt)
           (row_at (cover_modulo C bs) (source i)) spanned in
-          let one : at_column (unit_row (length K) (suc i)) (suc i) ≡ 1 = at_column-unit_row (length K) (suc i) (omega arith) (omega arith) in
+          let one : at_column (unit_row (length K) (suc i)) (suc i) ≡ 1 =
+          at_column-unit_row (length K) (suc i) (omega arith) (omega arith) in
           let same : at_column (row_at (cover_modulo C bs) (source i)) (suc i) ≡ at_column (unit_row (length K) (suc i)) (suc i) =
           ap (λ (x : List ℕ). at_column x (suc i)) (kept-row i l) in
           absurd (omega arith)

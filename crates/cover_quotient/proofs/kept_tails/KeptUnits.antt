@@ -19,7 +19,8 @@ use Rattle.pc_presentation.specs.Pcp.{unit_row}
 use Rattle.cover_quotient.specs.Carried.{carried}
 use Rattle.cover_quotient.specs.Kept.{kept_columns, entries_at, kept_rows}
 use Rattle.cover_quotient.proofs.carried_rows.CarriedRows.{combine-linear}
-use Rattle.cover_quotient.proofs.carried_rows.UnitRows.{unit_rows, IsRow-unit_row, AreRows-unit_rows, unit_row-one, unit_row-other, at_column-unit_row, at_column-unit_row_other, combine-unit_rows}
+use Rattle.cover_quotient.proofs.carried_rows.UnitRows.{unit_rows, IsRow-unit_row, AreRows-unit_rows, unit_row-one, unit_row-other}
+use Rattle.cover_quotient.proofs.carried_rows.UnitRows.{at_column-unit_row, at_column-unit_row_other, combine-unit_rows}
 use Rattle.pq_base.proofs.NumberLists.{length-numbers_from, get_or-numbers_from}
 use Rattle.pc_presentation.proofs.rows.TailRowLaws.{length-unit_row}
 use Rattle.cover_quotient.proofs.kept_tails.KeptColumns.{kept_at, kept_columns_rise}
@@ -75,10 +76,12 @@ module _ (p width : ℕ) (some : 1 < p) (bs : List BasisRow) (reduced : IsReduce
       (cases_eq k i) in
       same_number_lists (entries_at K x) (unit_row (length K) (suc i)) (long ∙ sym (length-unit_row (length K) (suc i))) entry
 
-  kept_entries-unit : (i : ℕ) → i < length K → kept_entries p width some bs reduced (unit_row width (get_or K i 0)) ≡ unit_row (length K) (suc i)
+  kept_entries-unit : (i : ℕ) → i < length K
+      → kept_entries p width some bs reduced (unit_row width (get_or K i 0)) ≡ unit_row (length K) (suc i)
   kept_entries-unit i l =
       let c : ℕ = get_or (kept_columns width bs) i 0 in
-      ap (entries_at K) (reduce_by-fixed p width some bs (unit_row width c) reduced (IsRow-unit_row p width c some) (unit-zero_at_pivots c (kept_at width bs i l).no_pivot))
+      ap (entries_at K) (reduce_by-fixed p width some bs (unit_row width c) reduced (IsRow-unit_row p width c some)
+      (unit-zero_at_pivots c (kept_at width bs i l).no_pivot))
       ∙ entries-of_unit i l
 
   -- a kept tail becomes the tail of its place
@@ -142,7 +145,8 @@ module _ (p width : ℕ) (some : 1 < p) (bs : List BasisRow) (reduced : IsReduce
           same =
               carried-kept p width some bs reduced x row'
               ∙ ap (entries_at K) (reduce_by-fixed p width some bs x reduced row' none)
-              ∙ combine-linear p width (length K) (kept_entries p width some bs reduced) positive (kept_entries-linear p width some bs reduced) y units are
+              ∙ combine-linear p width (length K) (kept_entries p width some bs reduced) positive
+              (kept_entries-linear p width some bs reduced) y units are
               ∙ ap (combine p (length K) y) units-mapped
               ∙ combine-unit_rows p (length K) y positive h;
         },

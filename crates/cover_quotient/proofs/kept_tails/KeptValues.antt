@@ -1,6 +1,7 @@
 -- Values in a group of the words of a cover modulo a reduced basis whose rows have value one: the kept tails are what their
 -- relations and images fail by, and what each relation and each image fails by is the value of its carried row.
-use Rattle.std.proofs.Common.{◌≡◌, ℕ, zero, suc, ◌+◌, ◌-◌, ◌<◌, ◌≤◌, None, ℤ, pos, List, [], ◌++◌, get_or, length, map, ap, sym, ◌∙◌, subst, arith, inl, inr}
+use Rattle.std.proofs.Common.{◌≡◌, ℕ, zero, suc, ◌+◌, ◌-◌, ◌<◌, ◌≤◌, None, ℤ, pos, List, [], ◌++◌, get_or, length, map, ap, sym, ◌∙◌, subst}
+use Rattle.std.proofs.Common.{arith, inl, inr}
 use Rattle.std.specs.List.{All}
 use Rattle.std.proofs.lemmas.Bool.{cases_lt}
 use Rattle.std.proofs.lemmas.List.{length-map, get_or-map, get_or_past, get_or_append_left, get_or-append-add}
@@ -11,7 +12,8 @@ use Rattle.pq_base.specs.Answer.{Answer, Definition, IsAnswer}
 use Rattle.pq_base.specs.Answer.Definition.{image, commutator, power}
 use Rattle.pq_base.proofs.words.LetterLaws.{HasLetters-word_from}
 use Rattle.pq_base.proofs.words.RangeLaws.{generators, length-letters_from, get_or-generators}
-use Rattle.pq_base.proofs.groups.Groups.{Group, value_in, power_in, same_from_equal, value_in-letter, value_in-sub, value_in-same, value_in-joined}
+use Rattle.pq_base.proofs.groups.Groups.{Group, value_in, power_in, same_from_equal, value_in-letter, value_in-sub, value_in-same}
+use Rattle.pq_base.proofs.groups.Groups.{value_in-joined}
 use Rattle.pq_base.proofs.groups.GroupCommute.{Commute, commute-one}
 use Rattle.fp_rows.specs.Rows.{IsRow}
 use Rattle.fp_rows.specs.Differences.{difference}
@@ -49,7 +51,8 @@ pub record AreCentral (G : Group) (f : List G.carrier) (A : Answer) : Type 0 whe
   pub order : (d : Definition) → IsSourceOf A d → G.same (power_in G (value_in G f (entry_word A d)) A.presentation.prime) G.one
 
 -- so are the tails of a list of them
-module _ (G : Group) (f : List G.carrier) (A : Answer) (are : AreCentral G f A) (ds : List Definition) (sources : All (IsSourceOf A) ds) where
+module _ (G : Group) (f : List G.carrier) (A : Answer) (are : AreCentral G f A) (ds : List Definition)
+    (sources : All (IsSourceOf A) ds) where
   entry-at : (t : ℕ) → t < length ds → get_or (entry_elements G f A ds) t G.one ≡ value_in G f (entry_word A (get_or ds t (image 0)))
   entry-at t l = get_or-map (λ (d : Definition). value_in G f (entry_word A d)) ds t (image 0) G.one l
 
@@ -112,7 +115,8 @@ module _ (G : Group) (f : List G.carrier) (A : Answer) (is : IsAnswer A) (some :
       (row_from_normal p q (row_of q (place_in ds d)) (row_of-normal p q (place_in ds d) (omega arith)))
 
   module _ (bs : List BasisRow) (reduced : IsReduced A.presentation.prime (length ds) bs)
-      (trivial : All (λ (r : List ℕ). G.same (value_in G (with_tails G f A is (entry_elements G f A ds)) (word_from A.presentation.rank r)) G.one) (rows_of bs)) where
+      (trivial : All (λ (r : List ℕ).
+      G.same (value_in G (with_tails G f A is (entry_elements G f A ds)) (word_from A.presentation.rank r)) G.one) (rows_of bs)) where
     abbrev K : List ℕ
     K = kept_columns (length ds) bs
 
@@ -186,7 +190,8 @@ module _ (G : Group) (f : List G.carrier) (A : Answer) (is : IsAnswer A) (some :
         let new : get_or (entry_elements G f A kept) t G.one ≡ value_in G f (entry_word A (get_or ds u (image 0))) =
         get_or-map (λ (d : Definition). value_in G f (entry_word A d)) kept t (image 0) G.one (omega arith)
         ∙ ap (λ (d : Definition). value_in G f (entry_word A d)) (get_or-map (λ (c : ℕ). get_or ds (c - 1) (image 0)) K t 0 (image 0) l) in
-        G.transitive (same_from_equal G (entry-map (λ (w : List ℤ). value_in G h w) letters (n + t) [] ∙ ap (value_in G h) (letters-back t l)))
+        G.transitive (same_from_equal G
+        (entry-map (λ (w : List ℤ). value_in G h w) letters (n + t) [] ∙ ap (value_in G h) (letters-back t l)))
         (G.transitive (value_in-tail G f A is (entry_elements G f A ds) u)
         (same_from_equal G (old ∙ sym new ∙ sym (get_or-tail G f A is (entry_elements G f A kept) t))))
 
@@ -215,20 +220,23 @@ module _ (G : Group) (f : List G.carrier) (A : Answer) (is : IsAnswer A) (some :
         (HasLetters-word_from (n + length K) n y (omega arith))))
 
     -- a row and the row that it is carried to
-    carried-value : (x : List ℕ) → IsRow p q x → G.same (value_in G h (word_from n x)) (value_in G h' (word_from n (carried p (length K) rows x)))
+    carried-value : (x : List ℕ) → IsRow p q x
+        → G.same (value_in G h (word_from n x)) (value_in G h' (word_from n (carried p (length K) rows x)))
     carried-value x row =
         let y : List ℕ = carried p (length K) rows x in
         G.transitive
         (difference-value G (rowed (cover_on A ds)) cover-is.presentation some h cover-relators x (combine p q y (kept_units q bs)) row
         (kept_units-rows p q some bs reduced y)
-        (span-one G (rowed (cover_on A ds)) cover-is.presentation some h cover-relators (rows_of bs) (AreRows-reduced p q bs reduced) trivial
+        (span-one G (rowed (cover_on A ds)) cover-is.presentation some h cover-relators (rows_of bs)
+        (AreRows-reduced p q bs reduced) trivial
         (difference p x (combine p q y (kept_units q bs))) (carried-in_span p q some bs reduced x row)))
         (combination-value y (carried-is_row p q some bs reduced x))
 
     -- the row of a relation or an image
     pub row_at-carried : (d : Definition) → IsSourceOf A d
         → row_at (carried_answer (length (kept_columns (length ds) bs)) (kept_rows A.presentation.prime (length ds) bs) (cover_on A ds)) d
-        ≡ carried A.presentation.prime (length (kept_columns (length ds) bs)) (kept_rows A.presentation.prime (length ds) bs) (row_at (cover_on A ds) d)
+        ≡ carried A.presentation.prime (length (kept_columns (length ds) bs)) (kept_rows A.presentation.prime (length ds) bs)
+        (row_at (cover_on A ds) d)
     row_at-carried (image zero) s = absurd s
     row_at-carried (image (suc i)) s =
         let c = cover-is.image_count in

@@ -9,8 +9,10 @@ use Rattle.pq_base.specs.Answer.{Answer, IsAnswer, image_words}
 use Rattle.pq_base.specs.Largest.{IsLargest}
 use Rattle.pq_base.specs.EntryWords.{spelling_words}
 use Rattle.pq_base.proofs.words.WordLaws.{sub-append, sub-inv, sub-letter}
-use Rattle.pq_base.proofs.words.LetterLaws.{HasLetters-append, HasLetters-inv, HasLetters-get_or, HasLetters-letter, HasLetters-relator, HasLetters-sub}
-use Rattle.pq_base.proofs.words.JoinedLaws.{joined-refl, joined-from_equal, joined-trans, joined-append, joined-inv, inv-append-joined, relator-joined}
+use Rattle.pq_base.proofs.words.LetterLaws.{HasLetters-append, HasLetters-inv, HasLetters-get_or, HasLetters-letter, HasLetters-relator}
+use Rattle.pq_base.proofs.words.LetterLaws.{HasLetters-sub}
+use Rattle.pq_base.proofs.words.JoinedLaws.{joined-refl, joined-from_equal, joined-trans, joined-append, joined-inv, inv-append-joined}
+use Rattle.pq_base.proofs.words.JoinedLaws.{relator-joined}
 use Rattle.pq_base.proofs.words.SpelledBack.{spelled_words-back}
 use Rattle.pq_base.proofs.words.SpellingLetters.{AreWords-spelling_words}
 use Rattle.pq_base.proofs.tables.TableGroup.{value-append, value-inv, value-letter, value-sub}
@@ -19,7 +21,8 @@ use Rattle.pq_base.proofs.KilledWords.{killed-level}
 use Rattle.cover_quotient.specs.Fits.{spelled_elements, Fits}
 use Rattle.cover_quotient.proofs.stages.ImageNumbers.{AreWords-image_words}
 
-module _ (L : LPresentation) (p c : ℕ) (A : Answer) (largest : IsLargest L p c A) (T : Table) (f : List ℕ) (g : IsGroup T) (obeys : Obeys T f L)
+module _ (L : LPresentation) (p c : ℕ) (A : Answer) (largest : IsLargest L p c A) (T : Table) (f : List ℕ) (g : IsGroup T)
+    (obeys : Obeys T f L)
     (Q : LevelQuotient T p c f) where
   is : IsAnswer A
   is = largest.answer
@@ -79,7 +82,8 @@ module _ (L : LPresentation) (p c : ℕ) (A : Answer) (largest : IsLargest L p c
         (value-inv T g f obeys.elements (sub v (spelling_words A)) ∙ ap (inverse T) (value-sub T g f obeys.elements v (spelling_words A)))
         ∙ ap (times T (inverse T (value T (spelled_elements T f A) v))) (value-letter T g f obeys.elements i)
 
-    image-level : InLevel T A.presentation.prime c (times T (inverse T (value T (spelled_elements T f A) (get_or (image_words A) i []))) (get_or f i 0))
+    image-level : InLevel T A.presentation.prime c
+        (times T (inverse T (value T (spelled_elements T f A) (get_or (image_words A) i []))) (get_or f i 0))
     image-level = subst (λ (x : ℕ). InLevel T A.presentation.prime c x) u-value (dies-level u u-letters u-dies)
 
   pub largest-fits : Fits T f c A

@@ -53,7 +53,8 @@ may_define-stable A k d h = record {
   allowed = true-stable (is_qualifying A (suc k) d) (λ fails. h (λ may. fails may.allowed));
 }
 
-module _ (L : LPresentation) (p : ℕ) (C : CoverOf) (push : State → ℕ → State) (B : Echelon) (step : IsStepOfLargestQuotients L p C push B) where
+module _ (L : LPresentation) (p : ℕ) (C : CoverOf) (push : State → ℕ → State) (B : Echelon)
+    (step : IsStepOfLargestQuotients L p C push B) where
   abbrev A : Answer
   A = C.answer
 
@@ -65,7 +66,8 @@ module _ (L : LPresentation) (p : ℕ) (C : CoverOf) (push : State → ℕ → S
 
   -- the answer at its own class
   here : IsLargest L p (class_of C.answer) C.answer
-  here = subst (λ (D : Answer). IsLargest L p (class_of C.answer) D) (restrictions_are_whole A step.answer k (omega arith)) (step.largest k (omega arith))
+  here = subst (λ (D : Answer). IsLargest L p (class_of C.answer) D) (restrictions_are_whole A step.answer k (omega arith))
+      (step.largest k (omega arith))
 
   cover : IsCover C
   cover = record {
@@ -105,7 +107,8 @@ module _ (L : LPresentation) (p : ℕ) (C : CoverOf) (push : State → ℕ → S
     ready : IsReady C.answer (class_of C.answer)
     ready = largest-ready L p A step.answer some here (step.largest (k - 1) (omega arith))
 
-    by_quotient : LevelQuotient (flat_table (cover_modulo C B.rows)) p (class_of C.answer) (image_elements (cover_modulo C B.rows)) → KeptMayDefine C B.rows
+    by_quotient : LevelQuotient (flat_table (cover_modulo C B.rows)) p (class_of C.answer) (image_elements (cover_modulo C B.rows))
+        → KeptMayDefine C B.rows
     by_quotient Q =
         kept_tails_may_define C B.rows push holds some ready
         (largest-fits L p k A here (flat_table Y) (image_elements Y) table.group obeys Q)

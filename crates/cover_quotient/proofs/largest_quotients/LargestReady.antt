@@ -1,13 +1,15 @@
 -- An answer that is the largest quotient of the class that it shows, and cut at the class before it the largest of that class,
 -- is ready for the next class. A generator of the last weight dies in the cut answer, so in the table of normal words it lies in the
 -- level before the last. Its commutators and its power then lie in the last level, which is trivial, and so do the right sides.
-use Rattle.std.proofs.Common.{◌≡◌, ℕ, suc, ◌+◌, ◌-◌, ◌<◌, ◌≤◌, ℤ, List, [], ◌∷◌, ◌++◌, get_or, length, replicate, refl, ap, sym, ◌∙◌, subst, arith, length-append, inl, inr}
+use Rattle.std.proofs.Common.{◌≡◌, ℕ, suc, ◌+◌, ◌-◌, ◌<◌, ◌≤◌, ℤ, List, [], ◌∷◌, ◌++◌, get_or, length, replicate, refl, ap, sym, ◌∙◌, subst}
+use Rattle.std.proofs.Common.{arith, length-append, inl, inr}
 use Rattle.std.proofs.lemmas.Bool.{cases_lt}
 use Rattle.std.proofs.lemmas.List.{length-replicate}
 use Rattle.pq_base.specs.SignedWord.{copies, comm, sub, HasLetters}
 use Rattle.pq_base.specs.LPresentation.{LPresentation, Obeys}
 use Rattle.pq_base.specs.Table.{Table, AllBelow, InLevel, HasTableClass, power, commutator, value}
-use Rattle.pq_base.specs.Presentation.{Presentation, IsNormal, IsLaterSide, letter, word_from, normal_word, power_side, commutator_side, power_word, commutator_word}
+use Rattle.pq_base.specs.Presentation.{Presentation, IsNormal, IsLaterSide, letter, word_from, normal_word, power_side, commutator_side}
+use Rattle.pq_base.specs.Presentation.{power_word, commutator_word}
 use Rattle.pq_base.specs.Joined.{Joined, IsConsistent}
 use Rattle.pq_base.specs.Answer.{Answer, IsAnswer, class_of, weight_at, image_words, spell}
 use Rattle.pq_base.specs.Canonical.{rank_up_to, first_generators, up_to_class}
@@ -141,7 +143,8 @@ module _ (L : LPresentation) (p : ℕ) (A : Answer) (is : IsAnswer A) (some : 1 
     -- and the last is trivial
     last-trivial : (y : ℕ) → InLevel N P.prime (suc k) y → y ≡ 0
     last-trivial y h =
-        let class : HasTableClass N P.prime (class_of A) = (tables_have_the_class P is.presentation here.consistent (class_of A)).0 here.class in
+        let class : HasTableClass N P.prime (class_of A) =
+        (tables_have_the_class P is.presentation here.consistent (class_of A)).0 here.class in
         let one_more : suc k ≡ class_of A = omega arith in
         class y (subst (λ (c : ℕ). InLevel N P.prime c y) one_more h)
 
@@ -151,7 +154,8 @@ module _ (L : LPresentation) (p : ℕ) (A : Answer) (is : IsAnswer A) (some : 1 
         value-copies N table.group gens table.generators (letter l) P.prime
         ∙ last-trivial (power N x P.prime) (table_level-power N table.group P.prime k x letter-level) in
         let trivial : Joined P (copies (letter l) P.prime) [] =
-        (table.joined (copies (letter l) P.prime) [] (HasLetters-copies P.rank (letter l) P.prime (HasLetters-letter P.rank l b)) tt).1 value_zero in
+        (table.joined (copies (letter l) P.prime) [] (HasLetters-copies P.rank (letter l) P.prime (HasLetters-letter P.rank l b)) tt).1
+        value_zero in
         let big = is.presentation.prime in
         trivial_side-empty P (omega arith) here.consistent l (power_side P l) (is.presentation.power_sides l b)
         (joined-trans (joined-sym (power-joined P l b)) trivial)
@@ -165,7 +169,8 @@ module _ (L : LPresentation) (p : ℕ) (A : Answer) (is : IsAnswer A) (some : 1 
         (table_level-commutator N table.group P.prime k x (value N gens (letter i)) letter-level
         (value-below N table.group gens table.generators (letter i))) in
         let trivial : Joined P (comm (letter l) (letter i)) [] =
-        (table.joined (comm (letter l) (letter i)) [] (HasLetters-comm P.rank (letter l) (letter i) (HasLetters-letter P.rank l b) letters) tt).1
+        (table.joined (comm (letter l) (letter i)) [] (HasLetters-comm P.rank (letter l) (letter i) (HasLetters-letter P.rank l b) letters)
+        tt).1
         value_zero in
         let big = is.presentation.prime in
         trivial_side-empty P (omega arith) here.consistent l (commutator_side P l i) (is.presentation.commutator_sides l i b a)

@@ -25,7 +25,9 @@ use Rattle.pc_presentation.proofs.rows.RowedClass.{classes_grow_by_one_with_rows
 use Rattle.cover_quotient.specs.Carried.{carried}
 use Rattle.cover_quotient.specs.Kept.{kept_columns, kept_rows}
 use Rattle.cover_quotient.specs.NextAnswer.{kept_sources, cover_modulo}
-use Rattle.cover_quotient.specs.AnswerLaws.{IsBasisOver, QuotientsAreRowedAnswers, NextAnswersAreAnswers, NextAnswersKeepTheClassesBefore, NothingKeptChangesNothing, NextAnswersHaveTheNextClass, NextAnswersAreConsistent, ValuesAreCarried, WordsOfTheSpanDie, NextAnswersKill, SpellingsArePreserved}
+use Rattle.cover_quotient.specs.AnswerLaws.{IsBasisOver, QuotientsAreRowedAnswers, NextAnswersAreAnswers, NextAnswersKeepTheClassesBefore}
+use Rattle.cover_quotient.specs.AnswerLaws.{NothingKeptChangesNothing, NextAnswersHaveTheNextClass, NextAnswersAreConsistent}
+use Rattle.cover_quotient.specs.AnswerLaws.{ValuesAreCarried, WordsOfTheSpanDie, NextAnswersKill, SpellingsArePreserved}
 use Rattle.cover_quotient.proofs.carried_rows.CarriedRows.{normal_from_row}
 use Rattle.cover_quotient.proofs.kept_tails.KeptRows.{length-kept_rows, kept_rows-are_rows, carried-zero}
 use Rattle.cover_quotient.proofs.spans.ConsistentQuotients.{quotients_by_overlap_rows_are_consistent}
@@ -44,7 +46,8 @@ module _ (C : CoverOf) (bs : List BasisRow) (basis : IsBasisOver C bs) where
   units : HasUnitRows C
   units = cover-units C basis.cover big
 
-  are : AreRows C.answer.presentation.prime (length (kept_columns (length C.sources) bs)) (kept_rows C.answer.presentation.prime (length C.sources) bs)
+  are : AreRows C.answer.presentation.prime (length (kept_columns (length C.sources) bs))
+      (kept_rows C.answer.presentation.prime (length C.sources) bs)
   are = kept_rows-are_rows C.answer.presentation.prime (length C.sources) big bs basis.reduced
 
 pub quotients_are_rowed_answers : QuotientsAreRowedAnswers
@@ -108,7 +111,8 @@ next_answers_kill C bs L basis is same spanned r h =
 
 pub spellings_are_preserved : SpellingsArePreserved
 spellings_are_preserved C bs basis =
-    let count : length (kept_sources C bs) ≡ length (kept_columns (length C.sources) bs) = length-kept_sources C (units C bs basis) (big C bs basis) bs basis.reduced in
+    let count : length (kept_sources C bs) ≡ length (kept_columns (length C.sources) bs) =
+    length-kept_sources C (units C bs basis) (big C bs basis) bs basis.reduced in
     let is = (quotients_are_rowed_answers C bs basis).answer in
     let all : All (IsSourceOf C.answer) (kept_sources C bs) =
     λ i d l.

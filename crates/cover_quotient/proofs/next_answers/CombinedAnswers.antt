@@ -28,7 +28,8 @@ module _ (C : CoverOf) (K : TailCombinations) (units : HasUnitRows C) (big : 1 <
   combined-rowed = carried-rowed_answer (rowed_cover C) units.rowed (omega arith) (length K.kept) K.rows are
 
   -- the source of a kept tail
-  source : (t : ℕ) → t < length K.kept → get_or C.sources (get_or K.kept t 0 - 1) (image 0) ≡ get_or (sources_at K.kept C.sources) t (image 0)
+  source : (t : ℕ) → t < length K.kept
+      → get_or C.sources (get_or K.kept t 0 - 1) (image 0) ≡ get_or (sources_at K.kept C.sources) t (image 0)
   source t l = sym (get_or-map (λ (c : ℕ). get_or C.sources (c - 1) (image 0)) K.kept t 0 (image 0) l)
 
   pub length-sources : length (sources_at K.kept C.sources) ≡ length K.kept
@@ -51,7 +52,8 @@ module _ (C : CoverOf) (K : TailCombinations) (units : HasUnitRows C) (big : 1 <
       let c : ℕ = get_or K.kept t 0 in
       let place : suc (c - 1) ≡ c = omega arith in
       let within : c - 1 < length C.sources = omega arith in
-      row_at-carried (rowed_cover C) units.rowed (omega arith) (length K.kept) K.rows are (get_or C.sources (c - 1) (image 0)) (units.sources (c - 1) within)
+      row_at-carried (rowed_cover C) units.rowed (omega arith) (length K.kept) K.rows are (get_or C.sources (c - 1) (image 0))
+      (units.sources (c - 1) within)
       ∙ ap (carried C.answer.presentation.prime (length K.kept) K.rows) (units.rows (c - 1) within ∙ ap (unit_row (length C.sources)) place)
       ∙ combine-unit_row C.answer.presentation.prime (length K.kept) (length C.sources) c K.rows (omega arith) are count first (omega arith)
       ∙ at.itself

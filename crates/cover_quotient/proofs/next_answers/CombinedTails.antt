@@ -1,5 +1,6 @@
 -- What becomes of a tail, as a sparse word behind that of the answer's generators: the word of its row, moved on.
-use Rattle.std.proofs.Common.{◌≡◌, ℕ, zero, suc, ◌+◌, ◌-◌, ◌<◌, ◌≤◌, Option, None, Some, List, [], ◌∷◌, length, map, get_or, refl, ap, ap₂, sym, ◌∙◌, subst, arith}
+use Rattle.std.proofs.Common.{◌≡◌, ℕ, zero, suc, ◌+◌, ◌-◌, ◌<◌, ◌≤◌, Option, None, Some, List, [], ◌∷◌, length, map, get_or, refl, ap, ap₂}
+use Rattle.std.proofs.Common.{sym, ◌∙◌, subst, arith}
 use Rattle.std.proofs.lemmas.List.Elements.{All-nil, All-cons}
 use Rattle.std.specs.Prelude.{All}
 use Rattle.pq_base.specs.Limits.{max_rank}
@@ -29,7 +30,8 @@ map_shifted-syllables_of by k (suc x ∷ e) =
     (map_shifted-syllables_of by (suc k) e ∙ ap (λ (n : ℕ). syllables_of n e) next)
 
 -- no generator moves too far
-pub syllables_move : (p q k by : ℕ) (w : List Syllable) → by + q ≤ max_rank → AreSyllables p q k w → All (λ s. by + s.generator ≤ max_rank) w
+pub syllables_move : (p q k by : ℕ) (w : List Syllable) → by + q ≤ max_rank → AreSyllables p q k w
+    → All (λ s. by + s.generator ≤ max_rank) w
 syllables_move p q k by [] h a = All-nil (λ (s : Syllable). by + s.generator ≤ max_rank)
 syllables_move p q k by (s ∷ w) h a =
     let last = a.1 in
@@ -58,7 +60,8 @@ module _ (K : TailCombinations) (are : AreCombinations K) (n : ℕ) (tail : Opti
       ∙ ap (syllables_of n) (combine-zeros K.prime (length K.kept) (length K.rows) K.rows (omega arith) are.rows)
       ∙ syllables_of-zeros n (length K.kept)
 
-  pub tail_part-some : (t : ℕ) → IsTail (length K.rows) tail → tail ≡ Some t → map (shifted n) (syllables_of 0 (get_or K.rows (t - 1) [])) ≡ tail_part K n tail
+  pub tail_part-some : (t : ℕ) → IsTail (length K.rows) tail → tail ≡ Some t
+      → map (shifted n) (syllables_of 0 (get_or K.rows (t - 1) [])) ≡ tail_part K n tail
   tail_part-some t range e =
       let big = are.prime in
       let r = tail-range (length K.rows) t tail range e in

@@ -1,6 +1,7 @@
 -- The next answer is an answer: the tails of an answer with rows become generators of the next class, defined by sources
 -- that may define them and that carry exactly these tails.
-use Rattle.std.proofs.Common.{◌≡◌, ℕ, zero, suc, ◌+◌, ◌-◌, ◌<◌, ◌≤◌, List, [], ◌∷◌, get_or, length, refl, ap, sym, ◌∙◌, inl, inr, subst, arith, length-append}
+use Rattle.std.proofs.Common.{◌≡◌, ℕ, zero, suc, ◌+◌, ◌-◌, ◌<◌, ◌≤◌, List, [], ◌∷◌, get_or, length, refl, ap, sym, ◌∙◌, inl, inr, subst}
+use Rattle.std.proofs.Common.{arith, length-append}
 use Rattle.std.proofs.lemmas.Bool.{cases_lt}
 use Rattle.std.proofs.lemmas.List.{length-replicate, get_or_append_left, get_or-append-add}
 use Rattle.std.proofs.Math.ListN.{get_or-map}
@@ -52,13 +53,15 @@ module _ (Y : RowedAnswer) (is : IsRowedAnswer Y) (positive : 0 < Y.answer.prese
       ∙ weight-new Y.answer.weights (suc (class_of Y.answer)) Y.width t l
 
   -- a definition of the answer
-  old-definition : (k : ℕ) (d : Source) → k < n → HasDefinition Y.answer k d → row_at Y d ≡ zeros Y.width → HasDefinition (next_answer Y sources) k d
+  old-definition : (k : ℕ) (d : Source) → k < n → HasDefinition Y.answer k d → row_at Y d ≡ zeros Y.width
+      → HasDefinition (next_answer Y sources) k d
   old-definition k (image zero) l h r = absurd h
   old-definition k (image (suc i)) l h r =
       let inside : i < length Y.answer.images = h.1 in (
         old-weight k l ∙ h.0,
         image-next i inside,
-        with_zero_row n Y.width (get_or (image_words Y.answer) i []) (get_or (image_words (next_answer Y sources)) i []) (get_or Y.image_rows i [])
+        with_zero_row n Y.width (get_or (image_words Y.answer) i []) (get_or (image_words (next_answer Y sources)) i [])
+            (get_or Y.image_rows i [])
             (image-followed Y is i inside) r ∙ h.2,
       )
   old-definition k (commutator zero i) l h r = absurd h
@@ -70,7 +73,8 @@ module _ (Y : RowedAnswer) (is : IsRowedAnswer Y) (positive : 0 < Y.answer.prese
         (let more : 1 < weight_at (next_answer Y sources) k = omega arith in more),
         h.1,
         h.2,
-        with_zero_row n Y.width (commutator_word Y.answer.presentation j i) (commutator_word (flat (rowed Y)) j i) (commutator_row (rowed Y) j i)
+        with_zero_row n Y.width (commutator_word Y.answer.presentation j i) (commutator_word (flat (rowed Y)) j i)
+            (commutator_row (rowed Y) j i)
             (commutator_word-flat (rowed Y) is.presentation j i (omega arith) h.1) r ∙ h.3,
       )
   old-definition k (power zero) l h r = absurd h
@@ -97,7 +101,8 @@ module _ (Y : RowedAnswer) (is : IsRowedAnswer Y) (positive : 0 < Y.answer.prese
       get_or-map normal_word Y.answer.images i [] ∙ ap normal_word (empty_list (get_or Y.answer.images i []) (omega arith)) in (
         (let one : weight_at (next_answer Y sources) (n + t) ≡ 1 = omega arith in one),
         image-next i s,
-        with_unit_row n Y.width t (get_or (image_words Y.answer) i []) (get_or (image_words (next_answer Y sources)) i []) (get_or Y.image_rows i [])
+        with_unit_row n Y.width t (get_or (image_words Y.answer) i []) (get_or (image_words (next_answer Y sources)) i [])
+            (get_or Y.image_rows i [])
             (image-followed Y is i s) empty r l,
       )
   new-definition t (suc c) (image (suc i)) l e s m r = absurd m
@@ -110,7 +115,8 @@ module _ (Y : RowedAnswer) (is : IsRowedAnswer Y) (positive : 0 < Y.answer.prese
         (let more : 1 < weight_at (next_answer Y sources) (n + t) = omega arith in more),
         s.1,
         (let before : j < n + t = omega arith in before),
-        with_unit_row n Y.width t (commutator_word Y.answer.presentation j i) (commutator_word (flat (rowed Y)) j i) (commutator_row (rowed Y) j i)
+        with_unit_row n Y.width t (commutator_word Y.answer.presentation j i) (commutator_word (flat (rowed Y)) j i)
+            (commutator_row (rowed Y) j i)
             (commutator_word-flat (rowed Y) is.presentation j i s.0 s.1) m r l,
       )
   new-definition t c (power zero) l e s m r = absurd s
@@ -129,7 +135,8 @@ module _ (Y : RowedAnswer) (is : IsRowedAnswer Y) (positive : 0 < Y.answer.prese
     next-definition k l = elim (cases_lt k n) [
       | inl h ↦
           let c = is.answer.definition_count in
-          let same : definition_at Y.answer k ≡ definition_at (next_answer Y sources) k = sym (get_or_append_left Y.answer.definitions sources (image 0) k (omega arith)) in
+          let same : definition_at Y.answer k ≡ definition_at (next_answer Y sources) k =
+          sym (get_or_append_left Y.answer.definitions sources (image 0) k (omega arith)) in
           subst (λ (d : Source). HasDefinition (next_answer Y sources) k d) same
           (old-definition k (definition_at Y.answer k) h (is.answer.definitions k h) (is.definitions k h))
       | inr h ↦
@@ -148,7 +155,8 @@ module _ (Y : RowedAnswer) (is : IsRowedAnswer Y) (positive : 0 < Y.answer.prese
     pub next-answer : class_of Y.answer < max_class → IsAnswer (next_answer Y sources)
     next-answer few = record {
       presentation = flat-presentation (rowed Y) is.presentation positive;
-      weight_count = simp length-append (let c = is.answer.weight_count in let d = length-replicate Y.width (suc (class_of Y.answer)) in omega arith);
+      weight_count =
+          simp length-append (let c = is.answer.weight_count in let d = length-replicate Y.width (suc (class_of Y.answer)) in omega arith);
       weights =
           weights-followed 1 (suc (class_of Y.answer)) Y.width Y.answer.weights is.answer.weights (omega arith) (omega arith) (omega arith);
       some_name = is.answer.some_name;

@@ -1,6 +1,7 @@
 -- Where there is a tail, the class of the next answer is one more, and cut to the class before, the next answer is the answer
 -- that it was made of.
-use Rattle.std.proofs.Common.{◌≡◌, ℕ, zero, suc, ◌+◌, ◌-◌, ◌<◌, ◌≤◌, Bool, false, leb, List, [], ◌∷◌, ◌++◌, get_or, length, map, take, replicate, refl, ap, ap₂, sym, ◌∙◌, arith}
+use Rattle.std.proofs.Common.{◌≡◌, ℕ, zero, suc, ◌+◌, ◌-◌, ◌<◌, ◌≤◌, Bool, false, leb, List, [], ◌∷◌, ◌++◌, get_or, length, map, take}
+use Rattle.std.proofs.Common.{replicate, refl, ap, ap₂, sym, ◌∙◌, arith}
 use Rattle.std.proofs.lemmas.Bool.{leb-true, false_from_ne_true}
 use Rattle.std.proofs.Math.Seq.{take-append_seam}
 use Rattle.pq_base.specs.Presentation.{Presentation}
@@ -20,7 +21,8 @@ count-later k (suc n) =
     let later : leb (suc k) k ≡ false = false_from_ne_true (leb (suc k) k) (λ e. let l = leb-true (suc k) k e in omega arith) in
     ap (λ (b : Bool). one_more_where b (count_up_to k (replicate n (suc k)))) later ∙ count-later k n
 
-count-followed : (least k n : ℕ) (ws : List ℕ) → AreWeights least ws → last_or_zero ws ≤ k → count_up_to k (ws ++ replicate n (suc k)) ≡ length ws
+count-followed : (least k n : ℕ) (ws : List ℕ) → AreWeights least ws → last_or_zero ws ≤ k
+    → count_up_to k (ws ++ replicate n (suc k)) ≡ length ws
 count-followed least k n [] h l = count-later k n
 count-followed least k n (v ∷ []) h l = count-one_more k v (replicate n (suc k)) l ∙ ap suc (count-later k n)
 count-followed least k n (v ∷ u ∷ ws) h l =
@@ -40,7 +42,8 @@ take-followed_by m (x ∷ xs) (y ∷ ys) e h =
     (take-followed_by m xs ys (omega arith) (λ i l. h (suc i) (omega arith)))
 
 -- right sides cut where they were followed by rows
-cut_powers-followed : (n : ℕ) (xs ys zs : List (List ℕ)) → length xs ≡ n → length ys ≡ n → ((i : ℕ) → i < n → suc i + length (get_or xs i []) ≡ n)
+cut_powers-followed : (n : ℕ) (xs ys zs : List (List ℕ)) → length xs ≡ n → length ys ≡ n
+    → ((i : ℕ) → i < n → suc i + length (get_or xs i []) ≡ n)
     → cut_powers n (followed_by xs ys ++ zs) ≡ xs
 cut_powers-followed zero [] ys zs c d h = refl
 cut_powers-followed zero (x ∷ xs) ys zs c d h = absurd (omega arith)
@@ -109,7 +112,8 @@ module _ (Y : RowedAnswer) (is : IsRowedAnswer Y) (sources : List Source) where
 
   same-definitions : take P.rank (Y.answer.definitions ++ sources) ≡ Y.answer.definitions
   same-definitions =
-      ap (λ (i : ℕ). take i (Y.answer.definitions ++ sources)) (sym is.answer.definition_count) ∙ take-append_seam Y.answer.definitions sources
+      ap (λ (i : ℕ). take i (Y.answer.definitions ++ sources)) (sym is.answer.definition_count)
+      ∙ take-append_seam Y.answer.definitions sources
 
   same-images : map (take P.rank) (next_answer Y sources).images ≡ Y.answer.images
   same-images =

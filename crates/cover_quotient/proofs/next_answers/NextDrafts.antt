@@ -1,6 +1,7 @@
 -- The next answer's presentation in the making: one relation after the other gets its right side, and where all relations of
 -- the answer's generators have theirs, the presentation is the next answer's.
-use Rattle.std.proofs.Common.{◌≡◌, ◌≢◌, ◌⊎◌, ◌<◌, ◌≤◌, ◌+◌, ◌-◌, ℕ, zero, suc, true, false, None, List, [], get_or, length, replicate, inl, inr, ap, ap₂, sym, ◌∙◌, subst, arith}
+use Rattle.std.proofs.Common.{◌≡◌, ◌≢◌, ◌⊎◌, ◌<◌, ◌≤◌, ◌+◌, ◌-◌, ℕ, zero, suc, true, false, None, List, [], get_or, length, replicate, inl}
+use Rattle.std.proofs.Common.{inr, ap, ap₂, sym, ◌∙◌, subst, arith}
 use Rattle.std.proofs.lemmas.Bool.{cases_eq, cases_lt}
 use Rattle.std.proofs.lemmas.List.{get_or-replicate}
 use Rattle.pq_base.specs.Presentation.{Presentation, IsPresentation}
@@ -16,7 +17,8 @@ use Rattle.pc_presentation.specs.Builder.{Draft, empty_draft, extended}
 use Rattle.pc_presentation.proofs.presentations.RelationNumbers.{same_or_other}
 use Rattle.pc_presentation.proofs.presentations.RelationTables.{entry_at-per_relation, per_relation-shape}
 use Rattle.pc_presentation.proofs.presentations.SideLaws.{spread-side_word}
-use Rattle.pc_presentation.proofs.normal_tables.EntryLaws.{with_entry-shape, entry_at-with_entry_same, entry_at-with_entry_other, same_tables}
+use Rattle.pc_presentation.proofs.normal_tables.EntryLaws.{with_entry-shape, entry_at-with_entry_same, entry_at-with_entry_other}
+use Rattle.pc_presentation.proofs.normal_tables.EntryLaws.{same_tables}
 use Rattle.cover_quotient.specs.NextParts.{IsAmong, IsDraft, Awaits, IsPresentationOf}
 
 -- the right sides of an elementary presentation are zeros
@@ -85,13 +87,15 @@ module _ (A : Answer) (is : IsPresentation A.presentation) where
           given = λ s l g. elim (same_or_other A.presentation.rank s r l h) [
             | inl same ↦ subst (IsAmong n a' b' c') (sym same) last
             | inr other ↦
-                still s (d.given s l (sym (entry_at-with_entry_other A.presentation.rank D.given false d.given_shape r true h s l other) ∙ g))
+                still s (d.given s l (sym (entry_at-with_entry_other A.presentation.rank D.given false d.given_shape r true h s l other)
+                ∙ g))
           ];
         })
 
     pub power-more : (k : ℕ) (D E : Draft) → k < A.presentation.rank → IsDraft A n k 0 0 D
         → E ≡ extended D (Power (k + 1)) (side_word A.presentation (Power (k + 1))) None → IsDraft A n (k + 1) 0 0 E
-    power-more k D E h d e = draft-more k 0 0 (k + 1) 0 0 D E (Power (k + 1)) (omega arith, omega arith) either still (inl (omega arith)) d e
+    power-more k D E h d e =
+        draft-more k 0 0 (k + 1) 0 0 D E (Power (k + 1)) (omega arith, omega arith) either still (inl (omega arith)) d e
       where
         still : (s : Relation) → IsAmong n k 0 0 s → IsAmong n (k + 1) 0 0 s
         still (Power i) (inl m) = inl (omega arith)
@@ -119,7 +123,8 @@ module _ (A : Answer) (is : IsPresentation A.presentation) where
         still (Commutator y x) (inr (inl w)) = let most = w.1 in inr (inl (w.0, omega arith))
         still (Commutator y x) (inr (inr w)) = inr (inr w)
 
-        either : (s : Relation) → IsRelation A.presentation.rank s → IsAmong n n k (i + 1) s → IsAmong n n k i s ⊎ (s ≡ Commutator (k + 1) (i + 1))
+        either : (s : Relation) → IsRelation A.presentation.rank s → IsAmong n n k (i + 1) s
+            → IsAmong n n k i s ⊎ (s ≡ Commutator (k + 1) (i + 1))
         either (Power x) l w = inl w
         either (Commutator y x) l (inl w) = inl (inl w)
         either (Commutator y x) l (inr (inr w)) = inl (inr (inr w))
@@ -136,7 +141,11 @@ module _ (A : Answer) (is : IsPresentation A.presentation) where
     -- the next relation wasn't given yet
     pub power-awaited : (k : ℕ) (D : Draft) → k < n → k < A.presentation.rank → IsDraft A n k 0 0 D → Awaits A (Power (k + 1)) D
     power-awaited k D inside h d =
-        record { of = is; draft = record { prime = d.prime; rank = d.rank }; new = λ g. after (d.given (Power (k + 1)) (omega arith, omega arith) g) }
+        record {
+          of = is;
+          draft = record { prime = d.prime; rank = d.rank };
+          new = λ g. after (d.given (Power (k + 1)) (omega arith, omega arith) g);
+        }
       where
         after : ¬ IsAmong n k 0 0 (Power (k + 1))
         after (inl m) = absurd (omega arith)
@@ -226,7 +235,8 @@ module _ (A : Answer) (is : IsPresentation A.presentation) where
         (λ r h. d.sides r h (any r)) in
         record {
           presentation =
-              ap₂ (λ (p k : ℕ). let P : Presentation = record { prime = p; rank = k; powers = D.built.presentation.powers; commutators = D.built.presentation.commutators } in P)
+              ap₂ (λ (p k : ℕ). let P : Presentation =
+              record { prime = p; rank = k; powers = D.built.presentation.powers; commutators = D.built.presentation.commutators } in P)
               d.prime d.rank
               ∙ ap (λ (t : PerRelation (List ℕ)). let P : Presentation = record {
                 prime = A.presentation.prime;

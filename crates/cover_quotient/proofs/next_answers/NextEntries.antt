@@ -1,6 +1,7 @@
 -- Weights, definitions and new parts of the next answer: at the classes before they are those of the answer, and at its last
 -- class the new part of a relation or an image is its row.
-use Rattle.std.proofs.Common.{◌≡◌, ℕ, zero, suc, ◌+◌, ◌-◌, ◌<◌, ◌≤◌, ◌&&◌, eqb, List, [], ◌∷◌, ◌++◌, get_or, length, take, drop, refl, ap, ap₂, sym, ◌∙◌, arith}
+use Rattle.std.proofs.Common.{◌≡◌, ℕ, zero, suc, ◌+◌, ◌-◌, ◌<◌, ◌≤◌, ◌&&◌, eqb, List, [], ◌∷◌, ◌++◌, get_or, length, take, drop, refl, ap}
+use Rattle.std.proofs.Common.{ap₂, sym, ◌∙◌, arith}
 use Rattle.std.proofs.lemmas.List.{take_all, drop_at, get_or_append_left, get_or-append-add}
 use Rattle.pq_base.specs.Presentation.{commutator_side, power_side}
 use Rattle.pq_base.specs.Answer.{Answer, Definition as Source, class_of, weight_at, definition_at}
@@ -90,7 +91,8 @@ module _ (Y : RowedAnswer) (is : IsRowedAnswer Y) (sources : List Source) where
     part-same (image (suc i)) s =
         let within : suc i ≤ length Y.answer.names = s.1 in
         let count : length Y.answer.images ≡ length Y.answer.names = is.answer.image_count in
-        let long = (normal-entry Y.answer.presentation.prime Y.answer.presentation.rank Y.answer.images i is.answer.images (omega arith)).count in
+        let long =
+        (normal-entry Y.answer.presentation.prime Y.answer.presentation.rank Y.answer.images i is.answer.images (omega arith)).count in
         ap (new_exponents N k 0) (get_or-followed_by Y.answer.images Y.image_rows i (is.answer.image_count ∙ sym is.image_count))
         ∙ exponents-same 0 (get_or Y.answer.images i []) (get_or Y.image_rows i []) (omega arith) (omega arith)
     part-same (commutator zero i) s = refl

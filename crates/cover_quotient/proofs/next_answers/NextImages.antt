@@ -1,6 +1,7 @@
 -- The images of the next answer, as sparse words: each is the answer's image followed by what becomes of its tail. And the
 -- parts of the next answer are parts of an answer.
-use Rattle.std.proofs.Common.{◌≡◌, ℕ, zero, suc, ◌+◌, ◌-◌, ◌<◌, ◌≤◌, List, [], ◌∷◌, ◌++◌, length, map, get_or, refl, ap, ap₂, sym, ◌∙◌, subst, arith}
+use Rattle.std.proofs.Common.{◌≡◌, ℕ, zero, suc, ◌+◌, ◌-◌, ◌<◌, ◌≤◌, List, [], ◌∷◌, ◌++◌, length, map, get_or, refl, ap, ap₂, sym, ◌∙◌}
+use Rattle.std.proofs.Common.{subst, arith}
 use Rattle.std.proofs.lemmas.List.{length-map, get_or-map}
 use Rattle.std.proofs.lemmas.List.Elements.{All-nil, All-cons}
 use Rattle.pq_base.specs.Presentation.{Presentation, IsNormal}
@@ -83,7 +84,8 @@ words-normal p n (e ∷ es) h =
     (AreSyllables-syllables_of p n 0 e (omega arith) h.0.below) (words-normal p n es h.1)
 
 -- the parts of an answer
-module _ (A : Answer) (is : IsAnswer A) (T : TailedPresentation) (names : List (List ℕ)) (definitions : List Definition) (words : List (List Syllable))
+module _ (A : Answer) (is : IsAnswer A) (T : TailedPresentation) (names : List (List ℕ)) (definitions : List Definition)
+    (words : List (List Syllable))
     (presentation : IsPresentationOf A T) (same_names : names ≡ A.names) (same_definitions : map definition_of definitions ≡ A.definitions)
     (same_words : words ≡ map (syllables_of 0) A.images) where
   same_images : map (spread T.presentation.rank 0) words ≡ A.images

@@ -15,7 +15,8 @@ use Rattle.cover_quotient.specs.Levels.{IsReady}
 use Rattle.cover_quotient.specs.NextAnswer.{next_answer, kept_sources, cover_modulo}
 use Rattle.cover_quotient.specs.KeptTailLaws.{NextAnswersAreReady}
 use Rattle.pq_base.proofs.LastWeights.{weights-within_class, weight-before, weight-new}
-use Rattle.cover_quotient.proofs.next_answers.AnswerLaws.{quotients_are_rowed_answers, next_answers_are_answers, next_answers_are_consistent}
+use Rattle.cover_quotient.proofs.next_answers.AnswerLaws.{quotients_are_rowed_answers, next_answers_are_answers}
+use Rattle.cover_quotient.proofs.next_answers.AnswerLaws.{next_answers_are_consistent}
 
 module _ (Y : RowedAnswer) (is : IsRowedAnswer Y) (sources : List Source) where
   abbrev n : ℕ
@@ -76,6 +77,7 @@ module _ (Y : RowedAnswer) (is : IsRowedAnswer Y) (sources : List Source) where
 
 pub next_answers_are_ready : NextAnswersAreReady
 next_answers_are_ready C bs push h may some few class =
-    let next : IsNextAnswer C.answer (next_answer (cover_modulo C bs) (kept_sources C bs)) = next_answers_are_answers C bs h.over may few some in
+    let next : IsNextAnswer C.answer (next_answer (cover_modulo C bs) (kept_sources C bs)) =
+    next_answers_are_answers C bs h.over may few some in
     next-ready (cover_modulo C bs) (quotients_are_rowed_answers C bs h.over) (kept_sources C bs) (next_answers_are_consistent C bs push h)
     next.restricts class

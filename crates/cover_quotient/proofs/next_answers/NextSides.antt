@@ -11,7 +11,8 @@ use Rattle.pc_presentation.specs.Pcp.{IsTailedPresentation, right_side, side_wor
 use Rattle.pc_presentation.specs.Rowed.{RowedPresentation, IsRowed}
 use Rattle.pc_presentation.specs.Tailed.{rowed_presentation}
 use Rattle.pq_base.proofs.PrimeLaws.{offered-two}
-use Rattle.pc_presentation.proofs.rows.FlatLaws.{power_side-flat, power_side-tail, commutator_side-flat, commutator_side-tail, flat-presentation}
+use Rattle.pc_presentation.proofs.rows.FlatLaws.{power_side-flat, power_side-tail, commutator_side-flat, commutator_side-tail}
+use Rattle.pc_presentation.proofs.rows.FlatLaws.{flat-presentation}
 use Rattle.pc_presentation.proofs.presentations.SideLaws.{right_side-count}
 use Rattle.pc_presentation.proofs.rows.TailRowLaws.{entry_at-tail_rows}
 use Rattle.pc_presentation.proofs.quotients.TailedLaws.{rowed_presentation-is}

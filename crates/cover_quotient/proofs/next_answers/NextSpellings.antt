@@ -26,7 +26,8 @@ module _ (A : Answer) (is : IsAnswer A) where
 
   -- sources of the answer spell beside its generators
   pub spellings-next : (ds : List Source) → All (IsSourceOf A) ds
-      → spellings A.presentation.prime [] (A.definitions ++ ds) ≡ spelling_words A ++ map (spelled A.presentation.prime (spelling_words A)) ds
+      → spellings A.presentation.prime [] (A.definitions ++ ds)
+      ≡ spelling_words A ++ map (spelled A.presentation.prime (spelling_words A)) ds
   spellings-next ds all =
       spellings-append A.presentation.prime [] A.definitions ds
       ∙ spellings-beside A.presentation.prime (spelling_words A) ds (λ i d l. source-refers (get_or ds i d) (all i d l))

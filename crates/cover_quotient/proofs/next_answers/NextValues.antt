@@ -54,7 +54,8 @@ module _ (Y : RowedAnswer) (is : IsRowedAnswer Y) (positive : 0 < Y.answer.prese
       let e : List ℕ = get_or Y.answer.images i [] in
       let x : List ℕ = get_or Y.image_rows i [] in
       let long = (normal-entry Y.answer.presentation.prime n Y.answer.images i is.answer.images (omega arith)).count in
-      let word : get_or (image_words Y.answer) i [] ≡ normal_word (get_or Y.answer.images i []) = get_or-map normal_word Y.answer.images i [] in
+      let word : get_or (image_words Y.answer) i [] ≡ normal_word (get_or Y.answer.images i []) =
+      get_or-map normal_word Y.answer.images i [] in
       let stays : sub (normal_word (get_or Y.answer.images i [])) letters ≡ normal_word (get_or Y.answer.images i []) =
       generators-stay n rows (normal_word e) (HasLetters-normal_word n e (omega arith)) in
       get_or-map (λ (u : List ℤ). sub u letters) (rowed_images Y) i []
@@ -64,7 +65,8 @@ module _ (Y : RowedAnswer) (is : IsRowedAnswer Y) (positive : 0 < Y.answer.prese
       ∙ ap (λ (u : List ℤ). u ++ sub (word_from Y.answer.presentation.rank (get_or Y.image_rows i [])) letters) (stays ∙ sym word)
 
   image-carried : (i : ℕ) → i < length Y.answer.names
-      → Joined (flat (rowed Q)) (get_or (image_words (next_answer Q sources)) i []) (get_or (map (λ (u : List ℤ). sub u letters) (rowed_images Y)) i [])
+      → Joined (flat (rowed Q)) (get_or (image_words (next_answer Q sources)) i [])
+      (get_or (map (λ (u : List ℤ). sub u letters) (rowed_images Y)) i [])
   image-carried i l =
       let d = is.image_count in
       let x : List ℕ = get_or Y.image_rows i [] in
@@ -80,7 +82,8 @@ module _ (Y : RowedAnswer) (is : IsRowedAnswer Y) (positive : 0 < Y.answer.prese
       (sub (sub w (rowed_images Y)) (carried_letters Y.answer.presentation.rank rows))
   value-carried w h =
       joined-trans
-      (joined-sub_same (flat (rowed Q)) (length Y.answer.names) (image_words (next_answer Q sources)) (map (λ (u : List ℤ). sub u letters) (rowed_images Y)) image-carried w h)
+      (joined-sub_same (flat (rowed Q)) (length Y.answer.names) (image_words (next_answer Q sources))
+      (map (λ (u : List ℤ). sub u letters) (rowed_images Y)) image-carried w h)
       (joined-from_equal (flat (rowed Q)) (sym (sub-sub w (rowed_images Y) letters)))
 
   -- a value that is the word of a row becomes the word of the row that it is carried to

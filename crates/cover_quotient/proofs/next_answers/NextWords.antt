@@ -1,6 +1,7 @@
 -- The relations and images of the next answer: each is that of the answer, followed by its row. So what has the row of zeros
 -- stays the same word, and what was empty and has a unit row is the letter of its tail.
-use Rattle.std.proofs.Common.{◌≡◌, ℕ, zero, suc, ◌+◌, ◌-◌, ◌<◌, Bool, cond, ne_eqb, ℤ, List, [], ◌∷◌, ◌++◌, get_or, length, map, ap, ap₂, sym, ◌∙◌, arith, length-append}
+use Rattle.std.proofs.Common.{◌≡◌, ℕ, zero, suc, ◌+◌, ◌-◌, ◌<◌, Bool, cond, ne_eqb, ℤ, List, [], ◌∷◌, ◌++◌, get_or, length, map, ap, ap₂}
+use Rattle.std.proofs.Common.{sym, ◌∙◌, arith, length-append}
 use Rattle.std.proofs.lemmas.List.{append-nil}
 use Rattle.std.proofs.Math.ListN.{get_or-map}
 use Rattle.pq_base.specs.Elementary.{zeros}
@@ -45,7 +46,8 @@ pub with_zero_row : (n q : ℕ) (v w : List ℤ) (x : List ℕ) → w ≡ v ++ w
 with_zero_row n q v w x e none =
     e ∙ ap (λ (y : List ℕ). v ++ word_from n y) none ∙ ap (λ (u : List ℤ). v ++ u) (word_from-zeros n q) ∙ append-nil v
 
-pub with_unit_row : (n q t : ℕ) (v w : List ℤ) (x : List ℕ) → w ≡ v ++ word_from n x → v ≡ [] → x ≡ unit_row q (suc t) → t < q → w ≡ letter (n + t)
+pub with_unit_row : (n q t : ℕ) (v w : List ℤ) (x : List ℕ) → w ≡ v ++ word_from n x → v ≡ [] → x ≡ unit_row q (suc t) → t < q
+    → w ≡ letter (n + t)
 with_unit_row n q t v w x e empty one l =
     e ∙ ap₂ (λ (u : List ℤ) (y : List ℕ). u ++ word_from n y) empty one ∙ word_from-unit_row n q t l
 
@@ -65,4 +67,5 @@ module _ (Y : RowedAnswer) (is : IsRowedAnswer Y) where
       ∙ ap normal_word (get_or-followed_by Y.answer.images Y.image_rows i same_count)
       ∙ normal_word-append e x
       ∙ ap (λ (m : ℕ). normal_word (get_or Y.answer.images i []) ++ word_from m (get_or Y.image_rows i [])) long
-      ∙ ap (λ (w : List ℤ). w ++ word_from Y.answer.presentation.rank (get_or Y.image_rows i [])) (sym (get_or-map normal_word Y.answer.images i []))
+      ∙ ap (λ (w : List ℤ). w ++ word_from Y.answer.presentation.rank (get_or Y.image_rows i []))
+      (sym (get_or-map normal_word Y.answer.images i []))

@@ -17,9 +17,12 @@ module _ (Y : RowedAnswer) (is : IsRowedAnswer Y) (positive : 0 < Y.answer.prese
   exact : HasExactLists (next_answer Y sources)
   exact = record {
     presentation = flat-presentation (rowed Y) is.presentation positive;
-    weight_count = simp length-append (let c = is.answer.weight_count in let d = length-replicate Y.width (suc (class_of Y.answer)) in omega arith);
+    weight_count =
+        simp length-append (let c = is.answer.weight_count in let d = length-replicate Y.width (suc (class_of Y.answer)) in omega arith);
     weights = subst (λ (ws : List ℕ). AreWeights 1 ws) (sym same_weights) is.answer.weights;
-    images = normal-followed_by Y.answer.presentation.prime Y.answer.presentation.rank Y.width Y.answer.images Y.image_rows is.answer.images is.image_rows;
+    images =
+        normal-followed_by Y.answer.presentation.prime Y.answer.presentation.rank Y.width Y.answer.images Y.image_rows is.answer.images
+        is.image_rows;
     definition_count = simp length-append (let c = is.answer.definition_count in omega arith);
   }
 

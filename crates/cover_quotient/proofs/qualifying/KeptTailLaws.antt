@@ -34,7 +34,8 @@ use Rattle.cover_quotient.proofs.carried_rows.UnitRows.{IsRow-unit_row}
 
 -- what holds of the source of each kept tail holds of the kept sources
 all-kept : (C : CoverOf) (bs : List BasisRow) (P : Source → Type 0)
-    → ((i : ℕ) → i < length (kept_columns (length C.sources) bs) → P (get_or C.sources (get_or (kept_columns (length C.sources) bs) i 0 - 1) (image 0)))
+    → ((i : ℕ) → i < length (kept_columns (length C.sources) bs)
+    → P (get_or C.sources (get_or (kept_columns (length C.sources) bs) i 0 - 1) (image 0)))
     → All P (kept_sources C bs)
 all-kept C bs P h =
     All-map P (λ (c : ℕ). get_or C.sources (c - 1) (image 0)) (kept_columns (length C.sources) bs)

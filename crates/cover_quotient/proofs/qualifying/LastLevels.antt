@@ -1,6 +1,7 @@
 -- Over an answer that is ready for the next class, the words of the last level of the flat reading are joined to words of
 -- combinations of the rows of the qualifying relations.
-use Rattle.std.proofs.Common.{◌≡◌, ℕ, zero, suc, ◌+◌, ◌-◌, ◌<◌, ◌≤◌, ℤ, List, [], ◌∷◌, ◌++◌, length, replicate, ap, sym, ◌∙◌, subst, arith, inl, inr}
+use Rattle.std.proofs.Common.{◌≡◌, ℕ, zero, suc, ◌+◌, ◌-◌, ◌<◌, ◌≤◌, ℤ, List, [], ◌∷◌, ◌++◌, length, replicate, ap, sym, ◌∙◌, subst, arith}
+use Rattle.std.proofs.Common.{inl, inr}
 use Rattle.std.proofs.lemmas.List.{append-nil}
 use Rattle.std.proofs.lemmas.Bool.{cases_lt}
 use Rattle.pq_base.specs.SignedWord.{copies, comm, HasLetters}
@@ -13,7 +14,8 @@ use Rattle.pq_base.specs.Answer.Definition.{image, commutator, power}
 use Rattle.pq_base.specs.Canonical.{rank_up_to, up_to_class}
 use Rattle.pq_base.proofs.words.WordLaws.{copies-nil, word_from-zeros}
 use Rattle.pq_base.proofs.words.LetterLaws.{HasLetters-letter, HasLetters-append, HasLetters-weaken, HasLetters-word_from}
-use Rattle.pq_base.proofs.words.JoinedLaws.{joined-refl, joined-from_equal, joined-sym, joined-trans, joined-comm, joined-copies, comm-joined_nil}
+use Rattle.pq_base.proofs.words.JoinedLaws.{joined-refl, joined-from_equal, joined-sym, joined-trans, joined-comm, joined-copies}
+use Rattle.pq_base.proofs.words.JoinedLaws.{comm-joined_nil}
 use Rattle.pq_base.proofs.SeriesLaws.{series-letters}
 use Rattle.pc_presentation.specs.Rowed.{RowedPresentation, power_row, commutator_row, flat}
 use Rattle.p_cover.specs.RowedAnswer.{RowedAnswer, IsRowedAnswer, rowed, row_at}
@@ -27,7 +29,8 @@ use Rattle.cover_quotient.specs.Levels.{IsReady, IsSpanned, qualifying_rows, Las
 use Rattle.pc_presentation.proofs.cuts.CutSides.{series-cut}
 use Rattle.pc_presentation.proofs.cuts.Cuts.{cut_words_are_later}
 use Rattle.pq_base.proofs.WeightLaws.{weights-least, weights-rise, weights-past_count, count_up_to-within}
-use Rattle.pq_base.proofs.groups.CentralCommutators.{IsCentralSet, comm_right-word, comm_right-central, comm-turned, comm_left-times, comm-nested, comm-copies, copies-product_kept}
+use Rattle.pq_base.proofs.groups.CentralCommutators.{IsCentralSet, comm_right-word, comm_right-central, comm-turned, comm_left-times}
+use Rattle.pq_base.proofs.groups.CentralCommutators.{comm-nested, comm-copies, copies-product_kept}
 use Rattle.cover_quotient.proofs.qualifying.QualifyingRows.{qualifying-are_rows, commutator-spanned, power-spanned}
 use Rattle.cover_quotient.proofs.spans.SpannedWords.{up_to_row-set, tail-central, spanned-set}
 
@@ -91,7 +94,8 @@ module _ (Y : RowedAnswer) (is : IsRowedAnswer Y) (big : 1 < Y.answer.presentati
   own_commutator : (l i : ℕ) → l ≤ i → i ≤ l → Joined F (comm (letter l) (letter i)) []
   own_commutator l i a b =
       let same : l ≡ i = omega arith in
-      subst (λ (j : ℕ). Joined F (comm (letter l) (letter j)) []) same (comm-joined_nil (letter l) (letter l) (joined-refl F (letter l ++ letter l)))
+      subst (λ (j : ℕ). Joined F (comm (letter l) (letter j)) []) same
+      (comm-joined_nil (letter l) (letter l) (joined-refl F (letter l ++ letter l)))
 
   letter-tail : (l i : ℕ) → l < n → weight_at A l ≡ suc k → i < n → IsTail (comm (letter l) (letter i))
   letter-tail l i b w m = elim (cases_lt i l) [
@@ -136,10 +140,12 @@ module _ (Y : RowedAnswer) (is : IsRowedAnswer Y) (big : 1 < Y.answer.presentati
   defined-trivial l i (commutator (suc s) (suc t)) b w m v d r =
       let below : t < s = d.1 in
       let before : s < i = d.2 in
-      let side : commutator_word Y.answer.presentation s t ++ word_from Y.answer.presentation.rank (commutator_row (rowed Y) s t) ≡ letter i =
+      let side : commutator_word Y.answer.presentation s t ++ word_from Y.answer.presentation.rank (commutator_row (rowed Y) s t)
+      ≡ letter i =
       zero_row (commutator_word P s t) (commutator_row Z s t) r ∙ d.3 in
       let relation : Joined F (comm (letter s) (letter t)) (letter i) =
-      subst (λ (u : List ℤ). Joined F (comm (letter s) (letter t)) u) side (commutator-with_row Z is.presentation s t (omega arith) below) in
+      subst (λ (u : List ℤ). Joined F (comm (letter s) (letter t)) u) side
+      (commutator-with_row Z is.presentation s t (omega arith) below) in
       joined-trans (joined-comm (joined-refl F (letter l)) (joined-sym relation))
       (comm-nested F IsTail tails (letter l) (letter s) (letter t)
       (letter-within l b) (letter-within s (omega arith)) (letter-within t (omega arith))
@@ -163,7 +169,8 @@ module _ (Y : RowedAnswer) (is : IsRowedAnswer Y) (big : 1 < Y.answer.presentati
       elim (cases_lt 1 (weight_at A i)) [
         | inl greater ↦
             spanned.kept
-            (joined-sym (defined-trivial l i (definition_at A i) b w m greater (is.answer.definitions i m) (is.definitions i m))) spanned.one
+            (joined-sym (defined-trivial l i (definition_at A i) b w m greater (is.answer.definitions i m) (is.definitions i m)))
+            spanned.one
         | inr one ↦ first-spanned l i b w m (omega arith)
       ]
 
@@ -175,7 +182,8 @@ module _ (Y : RowedAnswer) (is : IsRowedAnswer Y) (big : 1 < Y.answer.presentati
         let t : ℕ = i - Y.answer.presentation.rank in
         let place : Y.answer.presentation.rank + t ≡ i = omega arith in
         subst (λ (j : ℕ). InSpanned (comm (letter l) (letter j))) place
-        (comm_right-central F InSpanned spanned (letter l) (letter (n + t)) (letter-within l b) (tail-central Z is.presentation big t (omega arith)))
+        (comm_right-central F InSpanned spanned (letter l) (letter (n + t)) (letter-within l b)
+        (tail-central Z is.presentation big t (omega arith)))
   ]
 
   -- words whose commutators and powers are spanned
@@ -269,7 +277,8 @@ module _ (Y : RowedAnswer) (is : IsRowedAnswer Y) (big : 1 < Y.answer.presentati
       let most = ready.weights l h in
       omega arith in
       last-kept (joined-sym up.joined) letters
-      (last-append word (word_from n up.row) (last-word_from m last m reached.exponents (omega arith) (omega arith)) (last-row up.row up.normal))
+      (last-append word (word_from n up.row) (last-word_from m last m reached.exponents (omega arith) (omega arith))
+      (last-row up.row up.normal))
 
   -- the last level
   next-spanned : {w : List ℤ} → NextWord F (InSeries F k) w → InSpanned w

@@ -1,5 +1,6 @@
 -- The rows of the qualifying relations are rows, and hold the row of each relation that qualifies.
-use Rattle.std.proofs.Common.{◌≡◌, ℕ, zero, suc, ◌+◌, ◌<◌, ◌≤◌, ◌&&◌, Bool, true, pred, List, [], ◌∷◌, length, map, filter, refl, ap, ap₂, sym, ◌∙◌, subst, arith, eq-eqb}
+use Rattle.std.proofs.Common.{◌≡◌, ℕ, zero, suc, ◌+◌, ◌<◌, ◌≤◌, ◌&&◌, Bool, true, pred, List, [], ◌∷◌, length, map, filter, refl, ap, ap₂}
+use Rattle.std.proofs.Common.{sym, ◌∙◌, subst, arith, eq-eqb}
 use Rattle.std.specs.List.{All, Contains}
 use Rattle.std.proofs.lemmas.List.{length-map}
 use Rattle.std.proofs.lemmas.List.Elements.{All-nil, All-append, All-map, All-filter, Contains-append_left, Contains-append_right}
@@ -30,7 +31,8 @@ module _ {X : Type 0} where
       let within = h.1 in
       (h.0, (let l : h.0 < length (map f xs) = omega arith in l), get_or-map f xs h.0 x ∙ ap f h.2)
 
-contains-commutators : (js : List ℕ) (j : ℕ) (d : Source) → Contains js j → Contains (commutators_of j) d → Contains (commutators_up_to js) d
+contains-commutators : (js : List ℕ) (j : ℕ) (d : Source) → Contains js j → Contains (commutators_of j) d
+    → Contains (commutators_up_to js) d
 contains-commutators [] j d h c = let within = h.1 in absurd (omega arith)
 contains-commutators (x ∷ js) j d (zero, within, same) c =
     Contains-append_left (commutators_of x) (commutators_up_to js) d (subst (λ (i : ℕ). Contains (commutators_of i) d) (sym same) c)
@@ -96,7 +98,8 @@ module _ (Y : RowedAnswer) (is : IsRowedAnswer Y) (c : ℕ) where
         ap₂ (λ (x y : Bool). x && y) (eq-eqb (weight_at Y.answer j) c w) (eq-eqb (weight_at Y.answer i) 1 v) in
         let within : Contains (all_commutators Y.answer.presentation.rank) (commutator (suc j) (suc i)) =
         contains-commutators (numbers_from 1 n) (suc j) d (Contains-numbers_from 1 n (suc j) (omega arith) (omega arith))
-        (contains-map (λ (k : ℕ). commutator (suc j) k) (numbers_from 1 j) (suc i) (Contains-numbers_from 1 j (suc i) (omega arith) (omega arith))) in
+        (contains-map (λ (k : ℕ). commutator (suc j) k) (numbers_from 1 j) (suc i)
+        (Contains-numbers_from 1 j (suc i) (omega arith) (omega arith))) in
         relation-spanned d
         (Contains-append_left (filter test (all_commutators n)) (filter test (all_powers n)) d
         (Contains-filter test (all_commutators n) d within passes))

@@ -39,17 +39,20 @@ row_words-unique : (Y : RowedPresentation) → IsRowed Y → 0 < Y.base.prime �
 row_words-unique Y rowed positive consistent x y h i c =
     let state : (z : List ℕ) → IsNormal Y.base.prime Y.width z → IsState Y Y.base.rank (record { exponents = zeros Y.base.rank; row = z }) =
     λ z j. record { exponents = zeros-normal Y.base.prime Y.base.rank positive; row = j } in
-    let no_letters : (z : List ℕ) → signed_word Y.base.rank (configuration_of (record { exponents = zeros Y.base.rank; row = z })) ≡ word_from Y.base.rank z =
+    let no_letters : (z : List ℕ)
+    → signed_word Y.base.rank (configuration_of (record { exponents = zeros Y.base.rank; row = z })) ≡ word_from Y.base.rank z =
     λ z. ap (λ (w : List ℕ). letters w ++ word_from Y.base.rank z) (spelled-zeros 0 Y.base.rank) in
     let joined : Joined (flat Y) (signed_word Y.base.rank (configuration_of (record { exponents = zeros Y.base.rank; row = x })))
     (signed_word Y.base.rank (configuration_of (record { exponents = zeros Y.base.rank; row = y }))) =
     joined-trans (joined-from_equal (flat Y) (no_letters x)) (joined-trans c (joined-from_equal (flat Y) (sym (no_letters y)))) in
     ap (λ (t : State). t.row)
-    (states-unique Y rowed positive consistent (record { exponents = zeros Y.base.rank; row = x }) (record { exponents = zeros Y.base.rank; row = y })
+    (states-unique Y rowed positive consistent (record { exponents = zeros Y.base.rank; row = x })
+    (record { exponents = zeros Y.base.rank; row = y })
     (state x h) (state y i) joined)
 
 -- each element of the table is the value of a word
-generated : (P : Presentation) → NormalWordsAreATable P → (x : ℕ) → x < (normal_table P).size → HasValue (normal_table P) (generator_numbers P) P.rank x
+generated : (P : Presentation) → NormalWordsAreATable P → (x : ℕ) → x < (normal_table P).size
+    → HasValue (normal_table P) (generator_numbers P) P.rank x
 generated P t x l =
     let e = t.elements x l in
     let c = e.1.count in
@@ -67,7 +70,8 @@ module _ (Y : RowedAnswer) (is : IsRowedAnswer Y) (big : 1 < Y.answer.presentati
 
   -- the value of an entry word at the images is that of the word of the row
   entry-value : (d : Source) → IsSourceOf Y.answer d
-      → value (flat_table Y) (image_elements Y) (entry_word Y.answer d) ≡ value (flat_table Y) (generator_numbers (flat (rowed Y))) (tails_word Y (row_at Y d))
+      → value (flat_table Y) (image_elements Y) (entry_word Y.answer d)
+      ≡ value (flat_table Y) (generator_numbers (flat (rowed Y))) (tails_word Y (row_at Y d))
   entry-value d s =
       let t = flat_words_are_a_table in
       sym (value-sub (flat_table Y) t.group (generator_numbers F) t.generators (entry_word Y.answer d) (rowed_images Y))
@@ -92,6 +96,7 @@ module _ (Y : RowedAnswer) (is : IsRowedAnswer Y) (big : 1 < Y.answer.presentati
       (r.2 ∙ entry-value d s) in
       let row = IsRow-InSpan p Y.width (qualifying_rows Y k) spanned.row (omega arith) (qualifying-are_rows Y is k) spanned.span in
       let same : spanned.row ≡ row_at Y d =
-      row_words-unique (rowed Y) is.presentation (omega arith) consistent spanned.row (row_at Y d) (normal_from_row p Y.width spanned.row row) normal
+      row_words-unique (rowed Y) is.presentation (omega arith) consistent spanned.row (row_at Y d)
+      (normal_from_row p Y.width spanned.row row) normal
       (joined-trans (joined-sym spanned.joined) reached) in
       subst (λ (x : List ℕ). InSpan Y.answer.presentation.prime Y.width (qualifying_rows Y k) x) same spanned.span

@@ -27,7 +27,8 @@ use Rattle.cover_quotient.specs.Kept.{kept_columns, kept_rows}
 use Rattle.cover_quotient.specs.OverlapRows.{SpanOverlaps}
 use Rattle.cover_quotient.specs.SpanLaws.{QuotientsByOverlapRowsAreConsistent}
 use Rattle.cover_quotient.proofs.carried_rows.CarriedRows.{row_from_normal, carried-row, carried-difference}
-use Rattle.cover_quotient.proofs.carried_rows.CarriedPresentations.{carried-rowed, chain-carried, identity-carried, add_row-carried, left_way-carried, right_way-carried}
+use Rattle.cover_quotient.proofs.carried_rows.CarriedPresentations.{carried-rowed, chain-carried, identity-carried, add_row-carried}
+use Rattle.cover_quotient.proofs.carried_rows.CarriedPresentations.{left_way-carried, right_way-carried}
 use Rattle.cover_quotient.proofs.kept_tails.KeptRows.{kept_rows-are_rows, carried-zero}
 
 module _ (Z : RowedPresentation) (rowed : IsRowed Z) (big : 1 < Z.base.prime) (push : State → ℕ → State) (meaning : IsMeaning Z push) where
@@ -72,10 +73,12 @@ module _ (Z : RowedPresentation) (rowed : IsRowed Z) (big : 1 < Z.base.prime) (p
 
     -- the end of a way of Q
     carried_end : (c d : Configuration) → d ≡ record { word = c.word; row = carry c.row }
-        → add_row Z.base.prime d.row (mapped carry (push_word push (identity Z Z.base.rank) c.word)) ≡ mapped carry (push_configuration Z push (identity Z Z.base.rank) c)
+        → add_row Z.base.prime d.row (mapped carry (push_word push (identity Z Z.base.rank) c.word))
+        ≡ mapped carry (push_configuration Z push (identity Z Z.base.rank) c)
     carried_end c d e =
         let s : State = push_word push (identity Z Z.base.rank) c.word in
-        ap (λ (b : Configuration). add_row Z.base.prime b.row (mapped (carried Z.base.prime width rows) (push_word push (identity Z Z.base.rank) c.word))) e
+        ap (λ (b : Configuration).
+        add_row Z.base.prime b.row (mapped (carried Z.base.prime width rows) (push_word push (identity Z Z.base.rank) c.word))) e
         ∙ sym (add_row-carried Z rowed (omega arith) width rows are c.row s)
 
     pub overlap_agrees : IsConsistent Z.base → (o : Overlap) → IsOverlap Z.base.rank o
@@ -87,10 +90,12 @@ module _ (Z : RowedPresentation) (rowed : IsRowed Z) (big : 1 < Z.base.prime) (p
           left_end = mapped carry (push_word push (identity Z Z.base.rank) (left_way Z o).word);
           right_end = mapped carry (push_word push (identity Z Z.base.rank) (right_way Z o).word);
           left_chain =
-              subst (λ (w : List ℕ). PushChain Q (identity Q Z.base.rank) w (mapped carry (push_word push (identity Z Z.base.rank) (left_way Z o).word)))
+              subst (λ (w : List ℕ). PushChain Q (identity Q Z.base.rank) w
+              (mapped carry (push_word push (identity Z Z.base.rank) (left_way Z o).word)))
               (sym (ap (λ (c : Configuration). c.word) l)) (carried_chain (left_way Z o).word (left_way-below Z rowed big o h));
           right_chain =
-              subst (λ (w : List ℕ). PushChain Q (identity Q Z.base.rank) w (mapped carry (push_word push (identity Z Z.base.rank) (right_way Z o).word)))
+              subst (λ (w : List ℕ). PushChain Q (identity Q Z.base.rank) w
+              (mapped carry (push_word push (identity Z Z.base.rank) (right_way Z o).word)))
               (sym (ap (λ (c : Configuration). c.word) r)) (carried_chain (right_way Z o).word (right_way-below Z rowed big o h));
           same =
               carried_end (left_way Z o) (left_way Q o) l
@@ -98,7 +103,8 @@ module _ (Z : RowedPresentation) (rowed : IsRowed Z) (big : 1 < Z.base.prime) (p
               ∙ sym (carried_end (right_way Z o) (right_way Q o) r);
         }
 
-  pub quotient-consistent : (bs : List BasisRow) → IsConsistent Z.base → IsReduced Z.base.prime Z.width bs → SpanOverlaps Z push (rows_of bs)
+  pub quotient-consistent : (bs : List BasisRow) → IsConsistent Z.base → IsReduced Z.base.prime Z.width bs
+      → SpanOverlaps Z push (rows_of bs)
       → IsConsistent (flat (carried_presentation (length (kept_columns Z.width bs)) (kept_rows Z.base.prime Z.width bs) Z))
   quotient-consistent bs consistent reduced spans =
       let width : ℕ = length (kept_columns Z.width bs) in
@@ -107,7 +113,8 @@ module _ (Z : RowedPresentation) (rowed : IsRowed Z) (big : 1 < Z.base.prime) (p
       agreeing_overlaps_consistent (carried_presentation width rows Z) (carried-rowed Z rowed (omega arith) width rows are) big
       (λ o h.
       overlap_agrees width rows are consistent o h
-      ((carried-zero Z.base.prime Z.width big bs reduced (overlap_row Z push o) (overlap_row-row Z rowed big push meaning o h)).1 (spans o h)))
+      ((carried-zero Z.base.prime Z.width big bs reduced (overlap_row Z push o) (overlap_row-row Z rowed big push meaning o h)).1
+      (spans o h)))
 
 pub quotients_by_overlap_rows_are_consistent : QuotientsByOverlapRowsAreConsistent
 quotients_by_overlap_rows_are_consistent Z push bs rowed offered meaning consistent reduced spans =

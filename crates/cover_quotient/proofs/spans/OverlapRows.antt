@@ -24,8 +24,10 @@ use Rattle.cover_quotient.proofs.spans.TrivialRows.{trivial_in_span}
 -- rows on a list
 pub AreRows-from_all : (p width : ℕ) (rows : List (List ℕ)) → All (λ (r : List ℕ). IsRow p width r) rows → AreRows p width rows
 AreRows-from_all p width [] all = tt
-AreRows-from_all p width (r ∷ rows) all =
-    (All-head (λ (x : List ℕ). IsRow p width x) r rows all, AreRows-from_all p width rows (All-tail (λ (x : List ℕ). IsRow p width x) r rows all))
+AreRows-from_all p width (r ∷ rows) all = (
+  All-head (λ (x : List ℕ). IsRow p width x) r rows all,
+  AreRows-from_all p width rows (All-tail (λ (x : List ℕ). IsRow p width x) r rows all),
+)
 
 in_span_at : (p width : ℕ) (rows xs : List (List ℕ)) (k : ℕ) (d : List ℕ) → EachInSpan p width rows xs → k < length xs
     → InSpan p width rows (get_or xs k d)
@@ -33,7 +35,8 @@ in_span_at p width rows [] k d each l = absurd (omega arith)
 in_span_at p width rows (x ∷ xs) zero d each l = each.0
 in_span_at p width rows (x ∷ xs) (suc k) d each l = in_span_at p width rows xs k d each.1 (omega arith)
 
-pub InSpan-contained : (p width : ℕ) (rows : List (List ℕ)) (x : List ℕ) → 1 < p → AreRows p width rows → Contains rows x → InSpan p width rows x
+pub InSpan-contained : (p width : ℕ) (rows : List (List ℕ)) (x : List ℕ) → 1 < p → AreRows p width rows → Contains rows x
+    → InSpan p width rows x
 InSpan-contained p width rows x some are h =
     subst (λ (r : List ℕ). InSpan p width rows r) h.2 (in_span_at p width rows rows h.0 x (EachInSpan-own p width rows some are) h.1)
 
@@ -52,7 +55,8 @@ module _ (Z : RowedPresentation) (rowed : IsRowed Z) (big : 1 < Z.base.prime) (p
   pub overlap_rows-trivial : IsConsistent Z.base → All (λ (r : List ℕ). Joined (flat Z) (word_from Z.base.rank r) []) rows
   overlap_rows-trivial consistent =
       All-weaker (IsOverlapRow Z push) (λ (r : List ℕ). Joined (flat Z) (word_from Z.base.rank r) [])
-      (λ x h. subst (λ (r : List ℕ). Joined (flat Z) (word_from Z.base.rank r) []) h.same (overlap_row-trivial_over Z rowed big push meaning h.overlap h.is_overlap consistent))
+      (λ x h. subst (λ (r : List ℕ). Joined (flat Z) (word_from Z.base.rank r) []) h.same
+      (overlap_row-trivial_over Z rowed big push meaning h.overlap h.is_overlap consistent))
       rows overlaps.only
 
   pub trivial_exactly_in_span : HasInverses Z.base.prime → IsConsistent Z.base → (x : List ℕ) → IsNormal Z.base.prime Z.width x
@@ -64,4 +68,5 @@ module _ (Z : RowedPresentation) (rowed : IsRowed Z) (big : 1 < Z.base.prime) (p
 
 pub trivial_rows_are_the_span : TrivialRowsAreTheSpan
 trivial_rows_are_the_span Z push rows rowed offered meaning consistent overlaps x h =
-    trivial_exactly_in_span Z rowed (offered-two Z.base.prime offered) push meaning rows overlaps (HasInverses-offered Z.base.prime offered) consistent x h
+    trivial_exactly_in_span Z rowed (offered-two Z.base.prime offered) push meaning rows overlaps
+    (HasInverses-offered Z.base.prime offered) consistent x h

@@ -39,7 +39,8 @@ trivial_row-zero Y rowed positive consistent x h c =
     let s : State = record { exponents = zeros n; row = x } in
     let state : IsState Y Y.base.rank (record { exponents = zeros Y.base.rank; row = x }) =
     record { exponents = zeros-normal Y.base.prime Y.base.rank positive; row = h } in
-    let no_letters : (y : List ℕ) → signed_word Y.base.rank (configuration_of (record { exponents = zeros Y.base.rank; row = y })) ≡ word_from Y.base.rank y =
+    let no_letters : (y : List ℕ)
+    → signed_word Y.base.rank (configuration_of (record { exponents = zeros Y.base.rank; row = y })) ≡ word_from Y.base.rank y =
     λ y. ap (λ (w : List ℕ). letters w ++ word_from Y.base.rank y) (spelled-zeros 0 Y.base.rank) in
     let joined : Joined (flat Y) (signed_word Y.base.rank (configuration_of (record { exponents = zeros Y.base.rank; row = x })))
     (signed_word Y.base.rank (configuration_of (identity Y Y.base.rank))) =
@@ -51,7 +52,8 @@ module _ (Z : RowedPresentation) (rowed : IsRowed Z) (big : 1 < Z.base.prime) (i
     (push : State → ℕ → State) (meaning : IsMeaning Z push) (consistent : IsConsistent Z.base) where
   -- modulo a reduced basis
   in_reduced_span : (bs : List BasisRow) → IsReduced Z.base.prime Z.width bs → SpanOverlaps Z push (rows_of bs)
-      → (x : List ℕ) → IsNormal Z.base.prime Z.width x → Joined (flat Z) (word_from Z.base.rank x) [] → InSpan Z.base.prime Z.width (rows_of bs) x
+      → (x : List ℕ) → IsNormal Z.base.prime Z.width x → Joined (flat Z) (word_from Z.base.rank x) []
+      → InSpan Z.base.prime Z.width (rows_of bs) x
   in_reduced_span bs reduced spans x h c =
       let p : ℕ = Z.base.prime in
       let width : ℕ = length (kept_columns Z.width bs) in
@@ -75,7 +77,9 @@ module _ (Z : RowedPresentation) (rowed : IsRowed Z) (big : 1 < Z.base.prime) (i
 
 pub trivial_rows_are_in_the_span : TrivialRowsAreInTheSpan
 trivial_rows_are_in_the_span Z push rows rowed offered meaning consistent are spans x h c =
-    trivial_in_span Z rowed (offered-two Z.base.prime offered) (HasInverses-offered Z.base.prime offered) push meaning consistent rows are spans x h c
+    trivial_in_span Z rowed (offered-two Z.base.prime offered) (HasInverses-offered Z.base.prime offered) push meaning consistent rows are
+    spans x h c
 
 pub combinations_of_trivial_rows_are_trivial : CombinationsOfTrivialRowsAreTrivial
-combinations_of_trivial_rows_are_trivial Z rows rowed offered are all x h = span-trivial Z rowed (offered-positive Z.base.prime offered) rows are all x h
+combinations_of_trivial_rows_are_trivial Z rows rowed offered are all x h =
+    span-trivial Z rowed (offered-positive Z.base.prime offered) rows are all x h

@@ -65,7 +65,8 @@ module _ (C : CoverOf) (bs : List BasisRow) (basis : IsBasisOver C bs) (consiste
   image_words-modulo = image_words-next Y is (kept_sources C bs)
 
   pub modulo-obeys : (L : LPresentation) → IsLPresentation L → L.names ≡ C.answer.names
-      → ((r : List ℤ) → IsRelator L r → HasRowOf C (rows_of bs) r) → Obeys (flat_table (cover_modulo C bs)) (image_elements (cover_modulo C bs)) L
+      → ((r : List ℤ) → IsRelator L r → HasRowOf C (rows_of bs) r)
+      → Obeys (flat_table (cover_modulo C bs)) (image_elements (cover_modulo C bs)) L
   modulo-obeys L words names rows = record {
     count = length-image_elements ∙ ap length (sym names);
     elements = image_elements-below;

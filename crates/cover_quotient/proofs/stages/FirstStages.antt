@@ -1,6 +1,7 @@
 -- The trivial answer is a stage of class 0. Each stage is the largest quotient of its class, has the class that it shows and no
 -- smaller one, and is a stage over each stronger condition that its table meets.
-use Rattle.std.proofs.Common.{◌≡◌, ℕ, zero, suc, ◌<◌, ◌≤◌, ℤ, pos, negsuc, List, [], ◌∷◌, ◌++◌, get_or, length, map, replicate, refl, ap, sym, ◌∙◌, subst, arith}
+use Rattle.std.proofs.Common.{◌≡◌, ℕ, zero, suc, ◌<◌, ◌≤◌, ℤ, pos, negsuc, List, [], ◌∷◌, ◌++◌, get_or, length, map, replicate, refl, ap}
+use Rattle.std.proofs.Common.{sym, ◌∙◌, subst, arith}
 use Rattle.pq_base.specs.Limits.{max_names}
 use Rattle.pq_base.specs.SignedWord.{inv, sub, HasLetters}
 use Rattle.pq_base.specs.LPresentation.{LPresentation, Obeys, AreDistinct}
@@ -22,7 +23,8 @@ use Rattle.pc_presentation.proofs.presentations.TrivialLaws.{answer_of-trivial, 
 use Rattle.pq_base.proofs.PrimeLaws.{offered-two}
 use Rattle.cover_quotient.proofs.fitting.FitsStart.{fits_at_zero}
 use Rattle.cover_quotient.specs.Stages.{Condition, image_numbers, IsStageOver, Obeying, IsStage}
-use Rattle.cover_quotient.specs.StageLaws.{TrivialAnswersAreStages, StagesAreLargest, StagesHaveTheirClass, StagesHaveNoSmallerClass, StagesOfMoreRelators}
+use Rattle.cover_quotient.specs.StageLaws.{TrivialAnswersAreStages, StagesAreLargest, StagesHaveTheirClass, StagesHaveNoSmallerClass}
+use Rattle.cover_quotient.specs.StageLaws.{StagesOfMoreRelators}
 use Rattle.cover_quotient.proofs.stages.FittedSteps.{stage-fitted, fitted_answers_are_largest}
 use Rattle.cover_quotient.proofs.stages.ImageNumbers.{obeys-from_kills, kills-from_obeys}
 use Rattle.cover_quotient.proofs.canonical_answers.CanonicalAnswers.{trivial_answers_are_canonical}
@@ -52,7 +54,8 @@ no_letters (negsuc i ∷ w) h = let l = h.0 in absurd (omega arith)
 class-zero : (p : ℕ) → HasClass (elementary p 0) 0
 class-zero p w h = joined-from_equal (elementary p 0) (no_letters w h)
 
-trivial-answer : (p : ℕ) (names : List (List ℕ)) → 1 < p → 1 ≤ length names → length names ≤ max_names → AreDistinct names → IsAnswer (trivial_answer p names)
+trivial-answer : (p : ℕ) (names : List (List ℕ)) → 1 < p → 1 ≤ length names → length names ≤ max_names → AreDistinct names
+    → IsAnswer (trivial_answer p names)
 trivial-answer p names big some limit distinct =
     subst IsAnswer (answer_of-trivial p names (plain_presentation p [] 0) (replicate (length names) []) refl refl)
     (trivial_parts p names (plain_presentation p [] 0) (replicate (length names) []) refl refl (omega arith) some limit distinct).answer
@@ -79,7 +82,8 @@ pub trivial_answers_are_stages : TrivialAnswersAreStages
 trivial_answers_are_stages L p offered some limit distinct =
     let big : 1 < p = offered-two p offered in
     trivial-stage (Obeying L) L.names p offered some limit distinct
-    (obeys-from_kills (trivial_answer p L.names) (trivial-answer p L.names big some limit distinct) (elementary_laws p 0 (omega arith)).consistent L
+    (obeys-from_kills (trivial_answer p L.names) (trivial-answer p L.names big some limit distinct)
+    (elementary_laws p 0 (omega arith)).consistent L
     refl (λ r e. joined-from_equal (elementary p 0) (sub-no_images (length L.names) r)))
 
 -- a stage has the class that it shows

@@ -18,7 +18,8 @@ use Rattle.cover_quotient.specs.AnswerLaws.{IsBasisOver, kept_count}
 use Rattle.cover_quotient.specs.Fits.{Fits, IsJustified}
 use Rattle.cover_quotient.specs.FittingLaws.{FitsCovered, AreJustified}
 use Rattle.cover_quotient.specs.Defining.{KeptMayBeKept}
-use Rattle.cover_quotient.specs.Stages.{Condition, IsAdmitted, IsFittedOver, IsStageOver, OwesWhatItLeavesOut, IsTrustedOver, IsTrustedBasisOver, Obeying}
+use Rattle.cover_quotient.specs.Stages.{Condition, IsAdmitted, IsFittedOver, IsStageOver, OwesWhatItLeavesOut, IsTrustedOver}
+use Rattle.cover_quotient.specs.Stages.{IsTrustedBasisOver, Obeying}
 use Rattle.cover_quotient.specs.StageLaws.{StagesAreFitted, NextAnswersAreFitted, FittedAnswersStay, FittedAnswersAreLargest}
 use Rattle.cover_quotient.proofs.fitting.FitsStart.{fits_factors}
 use Rattle.cover_quotient.proofs.fitting.FittingLaws.{one_class_fits, no_tail_kept_fits}
@@ -29,7 +30,8 @@ no_entries [] h = refl
 no_entries (a ∷ x) h = absurd (omega arith)
 
 module _ (Adm : Condition) (given : List (List ℕ)) (p c : ℕ) (C : CoverOf) (rows : List (List ℕ)) (bs : List BasisRow)
-    (fitted : IsFittedOver Adm given p c C.answer) (owes : OwesWhatItLeavesOut Adm given C) (basis : IsTrustedBasisOver Adm given C rows bs) where
+    (fitted : IsFittedOver Adm given p c C.answer) (owes : OwesWhatItLeavesOut Adm given C)
+    (basis : IsTrustedBasisOver Adm given C rows bs) where
   prime : IsOffered C.answer.presentation.prime
   prime = subst IsOffered (sym fitted.prime) fitted.offered
 

@@ -21,7 +21,8 @@ use Rattle.pc_presentation.proofs.normal_tables.LevelWords.{tables_have_the_clas
 use Rattle.pc_presentation.proofs.normal_tables.NormalTableLaws.{AllBelow-list_from}
 use Rattle.cover_quotient.specs.OrderLaws.{LargestQuotientsHaveTheOrder}
 use Rattle.cover_quotient.specs.Stages.{image_numbers}
-use Rattle.cover_quotient.proofs.stages.ImageNumbers.{own-table, length-image_numbers, image_numbers-below, value-image_numbers, AreWords-image_words, obeys-from_kills}
+use Rattle.cover_quotient.proofs.stages.ImageNumbers.{own-table, length-image_numbers, image_numbers-below, value-image_numbers}
+use Rattle.cover_quotient.proofs.stages.ImageNumbers.{AreWords-image_words, obeys-from_kills}
 use Rattle.pq_base.proofs.words.SpellingLetters.{AreWords-spelling_words}
 
 module _ (L : LPresentation) (p k : ℕ) (A : Answer) (big : 1 < p) (is : IsLargest L p k A) where
@@ -113,7 +114,8 @@ module _ (L : LPresentation) (p k : ℕ) (A : Answer) (big : 1 < p) (is : IsLarg
         ∙ same-sent (word_of (times T a b)) (word_of a ++ word_of b) (word_of-letters (times T a b))
         (HasLetters-append P.rank (word_of a) (word_of b) (word_of-letters a) (word_of-letters b))
         (word_of-value (times T a b) c
-        ∙ sym (value-append T table.group gens table.generators (word_of a) (word_of b) ∙ ap₂ (times T) (word_of-value a l) (word_of-value b m)))
+        ∙ sym (value-append T table.group gens table.generators (word_of a) (word_of b)
+        ∙ ap₂ (times T) (word_of-value a l) (word_of-value b m)))
         ∙ value-append U group h through.elements (word_of a) (word_of b)
         ∙ sym (ap₂ (times U) (sent-at a l) (sent-at b m))
 
@@ -122,11 +124,13 @@ module _ (L : LPresentation) (p k : ℕ) (A : Answer) (big : 1 < p) (is : IsLarg
         let w : List ℤ = get_or (image_words A) i [] in
         let at : get_or images i 0 ≡ value T gens (get_or (image_words A) i []) = get_or-map (value T gens) (image_words A) i [] in
         let x : ℕ = value T gens w in
-        let below : value T gens (get_or (image_words A) i []) < (normal_table A.presentation).size = value-below T table.group gens table.generators w in
+        let below : value T gens (get_or (image_words A) i []) < (normal_table A.presentation).size =
+        value-below T table.group gens table.generators w in
         let count = length-image_numbers A is.answer is.consistent in
         ap (λ (z : ℕ). get_or sent z 0) at
         ∙ sent-at x below
-        ∙ same-sent (word_of x) w (word_of-letters x) (HasLetters-get_or P.rank (image_words A) i (AreWords-image_words A is.answer is.consistent)) (word_of-value x below)
+        ∙ same-sent (word_of x) w (word_of-letters x)
+        (HasLetters-get_or P.rank (image_words A) i (AreWords-image_words A is.answer is.consistent)) (word_of-value x below)
         ∙ through.images i (omega arith)
 
     carries : Carries T images U g

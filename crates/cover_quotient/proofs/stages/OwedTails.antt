@@ -28,7 +28,8 @@ pub full-owes : (Adm : Condition) (given : List (List ℕ)) (C : CoverOf) → Is
     → OwesWhatItLeavesOut Adm given C
 full-owes Adm given C is full = record { cover = is; left_out = λ T f c a fits. full_covers_fit T f c C a.group a.elements is full }
 
-module _ (T : Table) (f : List ℕ) (c : ℕ) (g : IsGroup T) (below : AllBelow T.size f) (A : Answer) (is : IsAnswer A) (fits : Fits T f c A) where
+module _ (T : Table) (f : List ℕ) (c : ℕ) (g : IsGroup T) (below : AllBelow T.size f) (A : Answer) (is : IsAnswer A)
+    (fits : Fits T f c A) where
   abbrev p : ℕ
   p = A.presentation.prime
 
@@ -53,7 +54,8 @@ module _ (T : Table) (f : List ℕ) (c : ℕ) (g : IsGroup T) (below : AllBelow 
       let out = cover-left_out T g f below c (full_cover_of A) cover some left fits in
       let entry = cover-entries Q F A is (all_sources A) out (commutator (suc j) (suc i)) (l, b) in
       let trivial =
-      empty-justified Q F A is some (all_sources A) (part_of_itself (all_sources A)) (cover-central T g f below c (full_cover_of A) cover some left fits)
+      empty-justified Q F A is some (all_sources A) (part_of_itself (all_sources A))
+      (cover-central T g f below c (full_cover_of A) cover some left fits)
       out (row_at (cover_on A (all_sources A)) (commutator (suc j) (suc i)))
       (heavy_tails_are_trivial (full_cover_of A) cover canonical (suc j) (suc i) (omega arith) (omega arith) (omega arith) heavy) in
       subst (λ (x : ℕ). InLevel T p (suc c) x) (given-number T g p (suc c) f below A (entry_word A d))

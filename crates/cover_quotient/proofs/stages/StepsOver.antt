@@ -22,7 +22,8 @@ use Rattle.cover_quotient.specs.Levels.{IsReady}
 use Rattle.pc_presentation.specs.OverlapRows.{overlap_row}
 use Rattle.cover_quotient.specs.Defining.{KeptMayDefine}
 use Rattle.cover_quotient.specs.KeptTailLaws.{flat_table, image_elements}
-use Rattle.cover_quotient.specs.Stages.{Condition, IsAdmitted, image_numbers, IsFittedOver, IsStageOver, IsNextStageOver, IsTrustedBasisOver, IsStepOver}
+use Rattle.cover_quotient.specs.Stages.{Condition, IsAdmitted, image_numbers, IsFittedOver, IsStageOver, IsNextStageOver}
+use Rattle.cover_quotient.specs.Stages.{IsTrustedBasisOver, IsStepOver}
 use Rattle.cover_quotient.proofs.canonical_answers.CanonicalAnswers.{next_answers_are_canonical}
 use Rattle.cover_quotient.proofs.canonical_answers.ReadyAnswers.{consistent_answers_are_ready}
 use Rattle.cover_quotient.proofs.kept_tails.EliminatedAnswers.{kept-defining}

@@ -29,7 +29,8 @@ module _ (Adm : Condition) (given : List (List ℕ)) (p : ℕ) where
             subst (λ (k : ℕ). IsStageOver Adm given p k (up_to_class A k)) (sym none) (whole-stage 0 A stage stage.class_limit);
       }
 
-  pub tower-grows : (c : ℕ) (A N : Answer) → IsTowerOver Adm given p c A → IsNextStageOver Adm given p c A N → IsTowerOver Adm given p (suc c) N
+  pub tower-grows : (c : ℕ) (A N : Answer) → IsTowerOver Adm given p c A → IsNextStageOver Adm given p c A N
+      → IsTowerOver Adm given p (suc c) N
   tower-grows c A N tower next =
       record {
         stage = next.stage;
@@ -40,7 +41,8 @@ module _ (Adm : Condition) (given : List (List ℕ)) (p : ℕ) where
               (tower.stages j (omega arith))
           | inr h ↦
               let same : j ≡ suc c = omega arith in
-              subst (λ (k : ℕ). IsStageOver Adm given p k (up_to_class N k)) (sym same) (whole-stage (suc c) N next.stage next.stage.class_limit)
+              subst (λ (k : ℕ). IsStageOver Adm given p k (up_to_class N k)) (sym same)
+              (whole-stage (suc c) N next.stage next.stage.class_limit)
         ];
       }
 

@@ -29,7 +29,8 @@ relator-fits (commutator_relator zero i l m) = absurd (omega arith)
 relator-fits (commutator_relator (suc j) i l m) = absurd (omega arith)
 
 image-fits : (i : ℕ) → i < 1
-    → InLevel two 2 1 (times two (inverse two (value two (spelled_elements two (1 ∷ []) order_two) (get_or (image_words order_two) i []))) (get_or (1 ∷ []) i 0))
+    → InLevel two 2 1 (times two (inverse two (value two (spelled_elements two (1 ∷ []) order_two) (get_or (image_words order_two) i [])))
+    (get_or (1 ∷ []) i 0))
 image-fits zero l = no_element
 image-fits (suc i) l = absurd (omega arith)
 

@@ -12,7 +12,8 @@ use Rattle.cover_quotient.specs.KeptTailLaws.{IsStepOfLargestQuotients}
 use Rattle.cover_quotient.specs.Stages.{IsBasisOfRows, IsTower, full_cover_of}
 use Rattle.cover_quotient.proofs.stages.FirstStages.{stages_are_largest}
 
-tower-step : (L : LPresentation) (p : ℕ) (A : Answer) (push : State → ℕ → State) (B : Echelon) → IsLPresentation L → IsTower L p (class_of A) A
+tower-step : (L : LPresentation) (p : ℕ) (A : Answer) (push : State → ℕ → State) (B : Echelon) → IsLPresentation L
+    → IsTower L p (class_of A) A
     → IsMeaning (rowed (rowed_cover (full_cover_of A))) push → IsBasisOfRows L (full_cover_of A) push B
     → IsStepOfLargestQuotients L p (full_cover_of A) push B
 tower-step L p A push B words tower meaning rows = record {

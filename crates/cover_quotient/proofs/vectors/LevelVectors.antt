@@ -140,4 +140,5 @@ is_square_spanned = record {
 is_a1_not_spanned : IsSpanned with_tail ((1 ∷ []) ∷ []) (pos 1 ∷ []) → ⊥
 is_a1_not_spanned s =
     is_a1_nontrivial
-    (subst (λ (w : List ℤ). Joined (elementary 2 1) (pos 1 ∷ []) w) (sub-row_word 1 1 s.row) (joined-projected (rowed with_tail) is_rowed s.joined))
+    (subst (λ (w : List ℤ). Joined (elementary 2 1) (pos 1 ∷ []) w) (sub-row_word 1 1 s.row)
+    (joined-projected (rowed with_tail) is_rowed s.joined))

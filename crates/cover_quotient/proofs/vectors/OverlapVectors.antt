@@ -64,7 +64,8 @@ rows_of_cover = record {
       All-cons (IsOverlapRow cyclic_cover (plain_push cyclic_cover)) (1 ∷ 0 ∷ []) ((0 ∷ 0 ∷ []) ∷ [])
       (record { overlap = own 0; is_overlap = omega arith; same = own_overlap })
       (All-cons (IsOverlapRow cyclic_cover (plain_push cyclic_cover)) (0 ∷ 0 ∷ []) []
-      (record { overlap = own 1; is_overlap = omega arith; same = own_overlap_of_second }) (All-nil (IsOverlapRow cyclic_cover (plain_push cyclic_cover))));
+      (record { overlap = own 1; is_overlap = omega arith; same = own_overlap_of_second })
+      (All-nil (IsOverlapRow cyclic_cover (plain_push cyclic_cover))));
 }
 
 -- the zero row alone is not all of them

@@ -99,7 +99,9 @@ commutator_may_define (suc k) d h = absurd (omega arith)
 
 -- so the answer of order eight is the next one, by the law
 order_eight_is_next : IsNextAnswer answer_of_class_one answer_of_order_eight
-order_eight_is_next = next_answers_are_answers cover_of_class_one squares squares_are_basis (kept-defining cover_of_class_one squares commutator_may_define) (lit≤ tt) (lit≤ tt)
+order_eight_is_next =
+    next_answers_are_answers cover_of_class_one squares squares_are_basis (kept-defining cover_of_class_one squares commutator_may_define)
+    (lit≤ tt) (lit≤ tt)
 
 -- the answer of class 1 is not, as its class is no greater
 class_one_is_not_next : IsNextAnswer answer_of_class_one answer_of_class_one → ⊥

@@ -49,7 +49,12 @@ commutator_of_a2_and_a1 = refl
 -- the cover of the dihedral group of order eight, with tails for [a3,a1], [a3,a2], a3^2, a1^2 and a2^2
 abbrev cover_of_order_eight : RowedPresentation
 cover_of_order_eight = record {
-  base = record { prime = 2; rank = 3; powers = (0 ∷ 0 ∷ []) ∷ (0 ∷ []) ∷ [] ∷ []; commutators = [] ∷ ((1 ∷ []) ∷ []) ∷ ([] ∷ [] ∷ []) ∷ [] };
+  base = record {
+    prime = 2;
+    rank = 3;
+    powers = (0 ∷ 0 ∷ []) ∷ (0 ∷ []) ∷ [] ∷ [];
+    commutators = [] ∷ ((1 ∷ []) ∷ []) ∷ ([] ∷ [] ∷ []) ∷ [];
+  };
   width = 5;
   power_rows = (0 ∷ 0 ∷ 0 ∷ 1 ∷ 0 ∷ []) ∷ (0 ∷ 0 ∷ 0 ∷ 0 ∷ 1 ∷ []) ∷ (0 ∷ 0 ∷ 1 ∷ 0 ∷ 0 ∷ []) ∷ [];
   commutator_rows = [] ∷ ((0 ∷ 0 ∷ 0 ∷ 0 ∷ 0 ∷ []) ∷ []) ∷ ((1 ∷ 0 ∷ 0 ∷ 0 ∷ 0 ∷ []) ∷ (0 ∷ 1 ∷ 0 ∷ 0 ∷ 0 ∷ []) ∷ []) ∷ [];
@@ -69,7 +74,8 @@ right_overlap_row : row_sum 2 (end_of cover_of_order_eight (left_way cover_of_or
 unfolding plain_push_from
 right_overlap_row = refl
 
-triple_overlap_agrees : end_of cover_of_order_eight (left_way cover_of_order_eight (triple 2 1 0)) ≡ end_of cover_of_order_eight (right_way cover_of_order_eight (triple 2 1 0))
+triple_overlap_agrees : end_of cover_of_order_eight (left_way cover_of_order_eight (triple 2 1 0))
+    ≡ end_of cover_of_order_eight (right_way cover_of_order_eight (triple 2 1 0))
 unfolding plain_push_from
 triple_overlap_agrees = refl
 
@@ -82,7 +88,9 @@ left_overlap_exponents = refl
 flat_cover : flat cover_of_order_eight ≡ record {
   prime = 2;
   rank = 8;
-  powers = (0 ∷ 0 ∷ 0 ∷ 0 ∷ 0 ∷ 1 ∷ 0 ∷ []) ∷ (0 ∷ 0 ∷ 0 ∷ 0 ∷ 0 ∷ 1 ∷ []) ∷ (0 ∷ 0 ∷ 1 ∷ 0 ∷ 0 ∷ []) ∷ (0 ∷ 0 ∷ 0 ∷ 0 ∷ []) ∷ (0 ∷ 0 ∷ 0 ∷ []) ∷ (0 ∷ 0 ∷ []) ∷ (0 ∷ []) ∷ [] ∷ [];
+  powers =
+      (0 ∷ 0 ∷ 0 ∷ 0 ∷ 0 ∷ 1 ∷ 0 ∷ []) ∷ (0 ∷ 0 ∷ 0 ∷ 0 ∷ 0 ∷ 1 ∷ []) ∷ (0 ∷ 0 ∷ 1 ∷ 0 ∷ 0 ∷ []) ∷ (0 ∷ 0 ∷ 0 ∷ 0 ∷ []) ∷ (0 ∷ 0 ∷ 0 ∷ [])
+      ∷ (0 ∷ 0 ∷ []) ∷ (0 ∷ []) ∷ [] ∷ [];
   commutators = [] ∷ ((1 ∷ 0 ∷ 0 ∷ 0 ∷ 0 ∷ 0 ∷ []) ∷ []) ∷ ((1 ∷ 0 ∷ 0 ∷ 0 ∷ 0 ∷ []) ∷ (0 ∷ 1 ∷ 0 ∷ 0 ∷ 0 ∷ []) ∷ [])
       ∷ ((0 ∷ 0 ∷ 0 ∷ 0 ∷ []) ∷ (0 ∷ 0 ∷ 0 ∷ 0 ∷ []) ∷ (0 ∷ 0 ∷ 0 ∷ 0 ∷ []) ∷ [])
       ∷ ((0 ∷ 0 ∷ 0 ∷ []) ∷ (0 ∷ 0 ∷ 0 ∷ []) ∷ (0 ∷ 0 ∷ 0 ∷ []) ∷ (0 ∷ 0 ∷ 0 ∷ []) ∷ [])
@@ -94,7 +102,13 @@ flat_cover = refl
 
 -- a1 squared is a2 and [a2,a1] is a3: then a1 cubed has two values
 abbrev collapsing : RowedPresentation
-collapsing = without_rows (record { prime = 2; rank = 3; powers = (1 ∷ 0 ∷ []) ∷ (0 ∷ []) ∷ [] ∷ []; commutators = [] ∷ ((1 ∷ []) ∷ []) ∷ ([] ∷ [] ∷ []) ∷ [] })
+collapsing =
+    without_rows (record {
+      prime = 2;
+      rank = 3;
+      powers = (1 ∷ 0 ∷ []) ∷ (0 ∷ []) ∷ [] ∷ [];
+      commutators = [] ∷ ((1 ∷ []) ∷ []) ∷ ([] ∷ [] ∷ []) ∷ [];
+    })
 
 left_way_of_cube : (end_of collapsing (left_way collapsing (own 0))).exponents ≡ 1 ∷ 1 ∷ 1 ∷ []
 unfolding plain_push_from
@@ -122,7 +136,8 @@ generators_of_cycle_of_four = refl
 abbrev images_in_order_sixteen : List State
 images_in_order_sixteen = record { exponents = 1 ∷ 0 ∷ 0 ∷ 0 ∷ []; row = [] } ∷ record { exponents = 0 ∷ 1 ∷ 0 ∷ 0 ∷ []; row = [] } ∷ []
 
-value_of_a_word : (evaluate_from (without_rows dihedral_of_order_sixteen) (plain_push (without_rows dihedral_of_order_sixteen)) images_in_order_sixteen images_in_order_sixteen
+value_of_a_word : (evaluate_from (without_rows dihedral_of_order_sixteen)
+    (plain_push (without_rows dihedral_of_order_sixteen)) images_in_order_sixteen images_in_order_sixteen
     (identity (without_rows dihedral_of_order_sixteen) 4) (pos 1 ∷ pos 2 ∷ pos 1 ∷ negsuc 1 ∷ [])).exponents ≡ 0 ∷ 0 ∷ 1 ∷ 1 ∷ []
 unfolding plain_push_from
 value_of_a_word = refl

@@ -26,7 +26,12 @@ run-behind Y k e c l f g (move {c = a} {d = b} s m) =
     let x = step-behind Y k e c.word b.word q.added (omega arith) l (subst (λ (w : List ℕ). StepAt Y k w b.word q.added) f q.step) in
     let next : Configuration = record { word = x.word; row = row_sum Y.base.prime c.row q.added } in
     let r = run-behind Y k e next l x.word_is (q.row_is ∙ ap (λ (z : List ℕ). row_sum Y.base.prime z q.added) g) m in
-    record { end = r.end; word_is = r.word_is; row_is = r.row_is; run = move (step_of_place Y (suc k) c.word x.word c.row q.added x.step) r.run }
+    record {
+      end = r.end;
+      word_is = r.word_is;
+      row_is = r.row_is;
+      run = move (step_of_place Y (suc k) c.word x.word c.row q.added x.step) r.run;
+    }
 
 pub push-behind : (Y : RowedPresentation) (k a b : ℕ) (s t : State) (i : ℕ) → a < Y.base.prime
     → RunFrom Y k (record { word = spelled 0 (a ∷ s.exponents) ++ suc i ∷ []; row = s.row }) (configuration_of (before b t))
@@ -42,9 +47,16 @@ push-behind Y k a b s t i l m =
     ends_at : EndsBehind Y k a (record { word = spelled 0 s.exponents ++ i ∷ []; row = s.row }) (configuration_of (before b t))
         → (b ≡ a) × RunFrom Y (suc k) (record { word = spelled 0 s.exponents ++ i ∷ []; row = s.row }) (configuration_of t)
     ends_at r =
-        let x = same_behind b a (spelled 0 t.exponents) r.end.word (ap (λ (w : List ℕ). replicate b 0 ++ w) (sym (spelled-suc 0 t.exponents)) ∙ r.word_is) in
+        let x = same_behind b a (spelled 0 t.exponents) r.end.word
+        (ap (λ (w : List ℕ). replicate b 0 ++ w) (sym (spelled-suc 0 t.exponents)) ∙ r.word_is) in
         let words : r.end.word ≡ spelled 0 t.exponents = sym x.1 in
         let rows : r.end.row ≡ t.row = sym r.row_is in
-        let whole : RunFrom Y (suc k) (record { word = spelled 0 s.exponents ++ i ∷ []; row = s.row }) (record { word = spelled 0 t.exponents; row = r.end.row }) =
-        subst (λ (w : List ℕ). RunFrom Y (suc k) (record { word = spelled 0 s.exponents ++ i ∷ []; row = s.row }) (record { word = w; row = r.end.row })) words r.run in
-        (x.0, subst (λ (y : List ℕ). RunFrom Y (suc k) (record { word = spelled 0 s.exponents ++ i ∷ []; row = s.row }) (record { word = spelled 0 t.exponents; row = y })) rows whole)
+        let whole : RunFrom Y (suc k) (record { word = spelled 0 s.exponents ++ i ∷ []; row = s.row })
+        (record { word = spelled 0 t.exponents; row = r.end.row }) =
+        subst (λ (w : List ℕ). RunFrom Y (suc k) (record { word = spelled 0 s.exponents ++ i ∷ []; row = s.row })
+        (record { word = w; row = r.end.row })) words r.run in (
+          x.0,
+          subst (λ (y : List ℕ).
+              RunFrom Y (suc k) (record { word = spelled 0 s.exponents ++ i ∷ []; row = s.row })
+              (record { word = spelled 0 t.exponents; row = y })) rows whole,
+        )

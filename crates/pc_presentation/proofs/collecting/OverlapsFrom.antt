@@ -17,7 +17,8 @@ pub data OverlapFrom (Y : RowedPresentation) (k : ℕ) : List ℕ → List ℕ �
   triple_from : (c j i a b : ℕ) → a ≡ k + j → b ≡ k + i → k + c < Y.base.rank → i < j → j < c
       → OverlapFrom Y k (c ∷ []) (j ∷ i ∷ []) (i ∷ j ∷ spelled (suc j) (commutator_side Y.base a b)) (commutator_row Y a b)
   left_from : (j i a b : ℕ) → a ≡ k + j → b ≡ k + i → a < Y.base.rank → i < j
-      → OverlapFrom Y k (replicate (pred Y.base.prime) j) (j ∷ i ∷ []) (i ∷ j ∷ spelled (suc j) (commutator_side Y.base a b)) (commutator_row Y a b)
+      → OverlapFrom Y k (replicate (pred Y.base.prime) j) (j ∷ i ∷ []) (i ∷ j ∷ spelled (suc j) (commutator_side Y.base a b))
+      (commutator_row Y a b)
   right_from : (j i b : ℕ) → b ≡ k + i → k + j < Y.base.rank → i < j
       → OverlapFrom Y k (j ∷ []) (replicate Y.base.prime i) (spelled (suc i) (power_side Y.base b)) (power_row Y b)
   own_from : (i b : ℕ) → b ≡ k + i → b < Y.base.rank
@@ -42,23 +43,31 @@ abbrev pub AllAgreeFrom : RowedPresentation → ℕ → ℕ → Type 0
 AllAgreeFrom Y n k = (a l r t : List ℕ) → OverlapFrom Y k a l r t → AgreesFrom Y n k a l r t
 
 -- later overlaps
-pub overlap-later : (Y : RowedPresentation) (k : ℕ) (a l r t : List ℕ) → OverlapFrom Y (suc k) a l r t → OverlapFrom Y k (map suc a) (map suc l) (map suc r) t
+pub overlap-later : (Y : RowedPresentation) (k : ℕ) (a l r t : List ℕ) → OverlapFrom Y (suc k) a l r t
+    → OverlapFrom Y k (map suc a) (map suc l) (map suc r) t
 overlap-later Y k _ _ _ _ (triple_from c j i a b f g m q x) =
-    subst (λ (w : List ℕ). OverlapFrom Y k (suc c ∷ []) (suc j ∷ suc i ∷ []) (suc i ∷ suc j ∷ w) (commutator_row Y a b)) (spelled-suc (suc j) (commutator_side Y.base a b))
+    subst (λ (w : List ℕ). OverlapFrom Y k (suc c ∷ []) (suc j ∷ suc i ∷ []) (suc i ∷ suc j ∷ w) (commutator_row Y a b))
+    (spelled-suc (suc j) (commutator_side Y.base a b))
     (triple_from (suc c) (suc j) (suc i) a b (omega arith) (omega arith) (omega arith) (omega arith) (omega arith))
 overlap-later Y k _ _ _ _ (left_from j i a b f g m q) =
-    subst (λ (w : List ℕ). OverlapFrom Y k w (suc j ∷ suc i ∷ []) (suc i ∷ suc j ∷ map suc (spelled (suc j) (commutator_side Y.base a b))) (commutator_row Y a b))
+    subst (λ (w : List ℕ). OverlapFrom Y k w (suc j ∷ suc i ∷ []) (suc i ∷ suc j ∷ map suc (spelled (suc j) (commutator_side Y.base a b)))
+    (commutator_row Y a b))
     (sym (map-replicate (pred Y.base.prime) j))
-    (subst (λ (w : List ℕ). OverlapFrom Y k (replicate (pred Y.base.prime) (suc j)) (suc j ∷ suc i ∷ []) (suc i ∷ suc j ∷ w) (commutator_row Y a b))
+    (subst (λ (w : List ℕ). OverlapFrom Y k (replicate (pred Y.base.prime) (suc j)) (suc j ∷ suc i ∷ []) (suc i ∷ suc j ∷ w)
+    (commutator_row Y a b))
     (spelled-suc (suc j) (commutator_side Y.base a b))
     (left_from (suc j) (suc i) a b (omega arith) (omega arith) m (omega arith)))
 overlap-later Y k _ _ _ _ (right_from j i b f m q) =
-    subst (λ (w : List ℕ). OverlapFrom Y k (suc j ∷ []) w (map suc (spelled (suc i) (power_side Y.base b))) (power_row Y b)) (sym (map-replicate Y.base.prime i))
-    (subst (λ (w : List ℕ). OverlapFrom Y k (suc j ∷ []) (replicate Y.base.prime (suc i)) w (power_row Y b)) (spelled-suc (suc i) (power_side Y.base b))
+    subst (λ (w : List ℕ). OverlapFrom Y k (suc j ∷ []) w (map suc (spelled (suc i) (power_side Y.base b))) (power_row Y b))
+    (sym (map-replicate Y.base.prime i))
+    (subst (λ (w : List ℕ). OverlapFrom Y k (suc j ∷ []) (replicate Y.base.prime (suc i)) w (power_row Y b))
+    (spelled-suc (suc i) (power_side Y.base b))
     (right_from (suc j) (suc i) b (omega arith) (omega arith) (omega arith)))
 overlap-later Y k _ _ _ _ (own_from i b f m) =
-    subst (λ (w : List ℕ). OverlapFrom Y k (suc i ∷ []) w (map suc (spelled (suc i) (power_side Y.base b))) (power_row Y b)) (sym (map-replicate Y.base.prime i))
-    (subst (λ (w : List ℕ). OverlapFrom Y k (suc i ∷ []) (replicate Y.base.prime (suc i)) w (power_row Y b)) (spelled-suc (suc i) (power_side Y.base b))
+    subst (λ (w : List ℕ). OverlapFrom Y k (suc i ∷ []) w (map suc (spelled (suc i) (power_side Y.base b))) (power_row Y b))
+    (sym (map-replicate Y.base.prime i))
+    (subst (λ (w : List ℕ). OverlapFrom Y k (suc i ∷ []) (replicate Y.base.prime (suc i)) w (power_row Y b))
+    (spelled-suc (suc i) (power_side Y.base b))
     (own_from (suc i) b (omega arith) m))
 
 -- a push of a later generator is a push on the rest of the state
@@ -67,11 +76,14 @@ pub record PushedLater (Y : RowedPresentation) (n k : ℕ) (s : State) (i : ℕ)
   pub is : t ≡ before 0 state
   pub pushed : IsPushedFrom Y n (suc k) s i state
 
-pushed-later : (Y : RowedPresentation) (n k : ℕ) (s : State) (i : ℕ) (t : State) → 0 < Y.base.prime → IsPushedFrom Y (suc n) k (before 0 s) (suc i) t → PushedLater Y n k s i t
+pushed-later : (Y : RowedPresentation) (n k : ℕ) (s : State) (i : ℕ) (t : State) → 0 < Y.base.prime
+    → IsPushedFrom Y (suc n) k (before 0 s) (suc i) t → PushedLater Y n k s i t
 pushed-later Y n k s i t h q =
     let b = is_before Y n t q.state in
-    let run : RunFrom Y k (record { word = spelled 0 (0 ∷ s.exponents) ++ suc i ∷ []; row = s.row }) (configuration_of (before b.exponent b.rest)) =
-    subst (λ (z : State). RunFrom Y k (record { word = spelled 0 (0 ∷ s.exponents) ++ suc i ∷ []; row = s.row }) (configuration_of z)) b.same q.run in
+    let run : RunFrom Y k (record { word = spelled 0 (0 ∷ s.exponents) ++ suc i ∷ []; row = s.row })
+    (configuration_of (before b.exponent b.rest)) =
+    subst (λ (z : State). RunFrom Y k (record { word = spelled 0 (0 ∷ s.exponents) ++ suc i ∷ []; row = s.row }) (configuration_of z))
+    b.same q.run in
     let r = push-behind Y k 0 b.exponent s b.rest i h run in
     record {
       state = b.rest;
@@ -84,7 +96,8 @@ pub record ChainLater (Y : RowedPresentation) (n k : ℕ) (s : State) (u : List 
   pub is : t ≡ before 0 state
   pub chain : PushChainFrom Y n (suc k) s u state
 
-chain-later : (Y : RowedPresentation) (n k : ℕ) (s : State) (u : List ℕ) {s' t : State} {u' : List ℕ} → 0 < Y.base.prime → s' ≡ before 0 s → u' ≡ map suc u
+chain-later : (Y : RowedPresentation) (n k : ℕ) (s : State) (u : List ℕ) {s' t : State} {u' : List ℕ} → 0 < Y.base.prime → s' ≡ before 0 s
+    → u' ≡ map suc u
     → PushChainFrom Y (suc n) k s' u' t → ChainLater Y n k s u t
 chain-later Y n k s [] h e f none_from = record { state = s; is = e; chain = none_from }
 chain-later Y n k s (i ∷ u) h e f none_from = cc
@@ -116,12 +129,16 @@ chain-plain : (Y : RowedPresentation) → IsRowed Y → 1 < Y.base.prime → (n 
     → IsState Y (suc n) s → PushChainFrom Y (suc n) k s u t → t ≡ push_word (plain Y (suc n) k) s u
 chain-plain Y r h n k acts v none_from = refl
 chain-plain Y r h n k acts v (then_from {s = s} {t = t} {i = i} {w = w} q c) =
-    chain-plain Y r h n k acts q.state c ∙ ap (λ (z : State). push_word (plain Y (suc n) k) z w) (any_run Y r h n k acts s t i v q.state q.run)
+    chain-plain Y r h n k acts q.state c
+    ∙ ap (λ (z : State). push_word (plain Y (suc n) k) z w) (any_run Y r h n k acts s t i v q.state q.run)
 
 -- so both ways agree plainly
-pub agree-plainly : (Y : RowedPresentation) → IsRowed Y → 1 < Y.base.prime → (n k : ℕ) → RelationsAct Y n (suc k) → IsState Y (suc n) (identity Y (suc n))
+pub agree-plainly : (Y : RowedPresentation) → IsRowed Y → 1 < Y.base.prime → (n k : ℕ) → RelationsAct Y n (suc k)
+    → IsState Y (suc n) (identity Y (suc n))
     → AllAgreeFrom Y (suc n) k → (a l r t : List ℕ) → OverlapFrom Y k a l r t
-    → push_word (plain Y (suc n) k) (identity Y (suc n)) (a ++ l) ≡ add_row Y.base.prime t (push_word (plain Y (suc n) k) (identity Y (suc n)) (a ++ r))
+    → push_word (plain Y (suc n) k) (identity Y (suc n)) (a ++ l)
+    ≡ add_row Y.base.prime t (push_word (plain Y (suc n) k) (identity Y (suc n)) (a ++ r))
 agree-plainly Y rowed h n k acts v agree a l r t o =
     let g = agree a l r t o in
-    sym (chain-plain Y rowed h n k acts v g.left_chain) ∙ g.same ∙ ap (add_row Y.base.prime t) (chain-plain Y rowed h n k acts v g.right_chain)
+    sym (chain-plain Y rowed h n k acts v g.left_chain)
+    ∙ g.same ∙ ap (add_row Y.base.prime t) (chain-plain Y rowed h n k acts v g.right_chain)

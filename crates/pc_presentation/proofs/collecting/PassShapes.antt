@@ -25,12 +25,14 @@ pub data LateStep (Y : RowedPresentation) (k e : ℕ) (v u : List ℕ) : List �
       → LateStep Y k e v u w t
 
 -- one copy fewer at the front, and one letter fewer there
-more_copies : (Y : RowedPresentation) (k e : ℕ) (v u w w' t : List ℕ) → suc e < Y.base.prime → w' ≡ 0 ∷ w → LateStep Y k e v u w t → LateStep Y k (suc e) v u w' t
+more_copies : (Y : RowedPresentation) (k e : ℕ) (v u w w' t : List ℕ) → suc e < Y.base.prime → w' ≡ 0 ∷ w → LateStep Y k e v u w t
+    → LateStep Y k (suc e) v u w' t
 more_copies Y k e v u w w' t l q (inside u' _ _ s f) = inside u' w' t s (q ∙ ap (λ (z : List ℕ). 0 ∷ z) f)
 more_copies Y k e v u w w' t l q (passes v' j _ _ g f h) = passes v' j w' t g (q ∙ ap (λ (z : List ℕ). 0 ∷ z) f) h
 more_copies Y k e v u w w' t l q (full _ _ g m f h) = absurd (omega arith)
 
-more_letters : (Y : RowedPresentation) (k j : ℕ) (v u w w' t : List ℕ) → 1 < Y.base.prime → w' ≡ suc j ∷ w → LateStep Y k 0 v u w t → LateStep Y k 0 (j ∷ v) u w' t
+more_letters : (Y : RowedPresentation) (k j : ℕ) (v u w w' t : List ℕ) → 1 < Y.base.prime → w' ≡ suc j ∷ w → LateStep Y k 0 v u w t
+    → LateStep Y k 0 (j ∷ v) u w' t
 more_letters Y k j v u w w' t l q (inside u' _ _ s f) = inside u' w' t s (q ∙ ap (λ (z : List ℕ). suc j ∷ z) f)
 more_letters Y k j v u w w' t l q (passes v' i _ _ g f h) =
     passes (j ∷ v') i w' t (ap (λ (z : List ℕ). j ∷ z) g) (q ∙ ap (λ (z : List ℕ). suc j ∷ z) f) h

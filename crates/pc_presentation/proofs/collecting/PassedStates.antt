@@ -4,13 +4,19 @@ use Rattle.std.proofs.Common.{◌≡◌, ℕ, zero, suc, ◌+◌, ◌<◌, List,
 use Rattle.pq_base.specs.Table.{AllBelow}
 use Rattle.pq_base.specs.Presentation.{IsNormal, power_side}
 use Rattle.pc_presentation.specs.Rowed.{RowedPresentation, IsRowed, power_row}
-use Rattle.pc_presentation.specs.Collection.{State, IsState, identity, spelled, configuration_of, add_row, before, push_word, push_configuration, push_power, push_past}
+use Rattle.pc_presentation.specs.Collection.{State, IsState, identity, spelled, configuration_of, add_row, before, push_word}
+use Rattle.pc_presentation.specs.Collection.{push_configuration, push_power, push_past}
 use Rattle.pc_presentation.proofs.rows.RowLaws.{zeros-row_sum, add_row-add_row, identity-state}
-use Rattle.pc_presentation.proofs.collecting.PushLaws.{Rides, Acts, push_word-add_row, push_configuration-add_row, push_word-keeps, run-acts}
-use Rattle.pc_presentation.proofs.collecting.PlainRule.{plain, plain-later_word, spelled-suc, plain-raise, plain-carry, plain-rides, plain-state, push_past-rides, push_past-state, push_power-state}
+use Rattle.pc_presentation.proofs.collecting.PushLaws.{Rides, Acts, push_word-add_row, push_configuration-add_row, push_word-keeps}
+use Rattle.pc_presentation.proofs.collecting.PushLaws.{run-acts}
+use Rattle.pc_presentation.proofs.collecting.PlainRule.{plain, plain-later_word, spelled-suc, plain-raise, plain-carry, plain-rides}
+use Rattle.pc_presentation.proofs.collecting.PlainRule.{plain-state, push_past-rides, push_past-state, push_power-state}
 use Rattle.pc_presentation.proofs.collecting.RunLaws.{ReplacementFrom}
 use Rattle.pc_presentation.proofs.collecting.PlainRuns.{plain-run, AllBelow-spelled}
-use Rattle.pc_presentation.proofs.collecting.StateProducts.{star, RelationsAct, star-identity_left, star-identity_right, push_configuration-identity, star-add_row, push_configuration-snoc, push_configuration-state, star-push_power, star-push_past, star-assoc, push_word-star, push-star}
+use Rattle.pc_presentation.proofs.collecting.StateProducts.{star, RelationsAct, star-identity_left, star-identity_right}
+use Rattle.pc_presentation.proofs.collecting.StateProducts.{push_configuration-identity, star-add_row, push_configuration-snoc}
+use Rattle.pc_presentation.proofs.collecting.StateProducts.{push_configuration-state, star-push_power, star-push_past, star-assoc}
+use Rattle.pc_presentation.proofs.collecting.StateProducts.{push_word-star, push-star}
 
 -- a letter of the later generators, passed
 abbrev pub past : RowedPresentation → ℕ → ℕ → State → ℕ → State
@@ -42,10 +48,13 @@ module _ (Y : RowedPresentation) (rowed : IsRowed Y) (positive : 0 < Y.base.prim
   past-state s j h = push_past-state Y rowed positive n (plain Y n (suc k)) k (plain-state Y rowed positive n (suc k)) s j h
 
   pub passed-state : (s : State) → IsState Y n s → IsState Y n (passed Y n k s)
-  passed-state s h = push_configuration-state Y rowed positive n (suc k) (past Y n k) past-state (identity Y n) s (identity-state Y n positive) h
+  passed-state s h =
+      push_configuration-state Y rowed positive n (suc k) (past Y n k) past-state (identity Y n) s (identity-state Y n positive) h
 
   pub full_power-state : IsState Y n (full_power Y n k)
-  full_power-state = push_power-state Y rowed positive n (plain Y n (suc k)) k (plain-state Y rowed positive n (suc k)) (identity Y n) (identity-state Y n positive)
+  full_power-state =
+      push_power-state Y rowed positive n (plain Y n (suc k)) k (plain-state Y rowed positive n (suc k)) (identity Y n)
+      (identity-state Y n positive)
 
   pub passed_times-state : (m : ℕ) (s : State) → IsState Y n s → IsState Y n (passed_times Y n k m s)
   passed_times-state zero s h = h
@@ -61,16 +70,19 @@ module _ (Y : RowedPresentation) (rowed : IsRowed Y) (positive : 0 < Y.base.prim
   passed_times-identity zero = refl
   passed_times-identity (suc m) = ap (passed_times Y n k m) passed-identity ∙ passed_times-identity m
 
-  pub passed_times-add_row : (m : ℕ) (x : List ℕ) (s : State) → passed_times Y n k m (add_row Y.base.prime x s) ≡ add_row Y.base.prime x (passed_times Y n k m s)
+  pub passed_times-add_row : (m : ℕ) (x : List ℕ) (s : State)
+      → passed_times Y n k m (add_row Y.base.prime x s) ≡ add_row Y.base.prime x (passed_times Y n k m s)
   passed_times-add_row zero x s = refl
   passed_times-add_row (suc m) x s = ap (passed_times Y n k m) (passed-add_row x s) ∙ passed_times-add_row m x (passed Y n k s)
 
   pub passed_times-add : (a b : ℕ) (s : State) → passed_times Y n k (a + b) s ≡ passed_times Y n k b (passed_times Y n k a s)
   passed_times-add zero b s = ap (λ (m : ℕ). passed_times Y n k m s) (let e : 0 + b ≡ b = omega arith in e)
-  passed_times-add (suc a) b s = ap (λ (m : ℕ). passed_times Y n k m s) (let e : suc a + b ≡ suc (a + b) = omega arith in e) ∙ passed_times-add a b (passed Y n k s)
+  passed_times-add (suc a) b s =
+      ap (λ (m : ℕ). passed_times Y n k m s) (let e : suc a + b ≡ suc (a + b) = omega arith in e) ∙ passed_times-add a b (passed Y n k s)
 
   -- the generator pushed before its exponent is full
-  pub first-raise : (e : ℕ) (s : State) → suc e < Y.base.prime → IsState Y n s → plain Y (suc n) k (before e s) 0 ≡ before (suc e) (passed Y n k s)
+  pub first-raise : (e : ℕ) (s : State) → suc e < Y.base.prime → IsState Y n s
+      → plain Y (suc n) k (before e s) 0 ≡ before (suc e) (passed Y n k s)
   first-raise e s l h =
       plain-raise Y n k e s l
       ∙ ap (λ (z : State). before (suc e) (push_word (past Y n k) z (spelled 0 s.exponents))) (start_row Y n s.row h.row)
@@ -81,7 +93,8 @@ module _ (Y : RowedPresentation) (rowed : IsRowed Y) (positive : 0 < Y.base.prim
       → plain Y (suc n) k (before e s) 0 ≡ before 0 (push_configuration Y (past Y n k) (full_power Y n k) (configuration_of s))
   first-full e s l h =
       plain-carry Y n k e s l
-      ∙ ap (λ (z : State). before 0 (push_word (past Y n k) (push_power Y (plain Y n (suc k)) k z) (spelled 0 s.exponents))) (start_row Y n s.row h.row)
+      ∙ ap (λ (z : State). before 0 (push_word (past Y n k) (push_power Y (plain Y n (suc k)) k z) (spelled 0 s.exponents)))
+      (start_row Y n s.row h.row)
       ∙ ap (λ (z : State). before 0 (push_word (past Y n k) z (spelled 0 s.exponents)))
       (push_configuration-add_row Y (plain Y n (suc k)) (plain-rides Y n (suc k)) s.row (identity Y n)
       (record { word = spelled 0 (power_side Y.base k); row = power_row Y k }))
@@ -96,11 +109,15 @@ module _ (Y : RowedPresentation) (rowed : IsRowed Y) (positive : 0 < Y.base.prim
       ∙ first-times (suc e) m f (passed Y n k s) (omega arith) l (passed-state s h)
 
   module _ (size : suc k + n ≡ Y.base.rank) (acts : RelationsAct Y n (suc k)) where
-    pub past-word : (s : State) (u : List ℕ) → IsState Y n s → push_word (past Y n k) s u ≡ star Y n (suc k) s (push_word (past Y n k) (identity Y n) u)
-    past-word s u h = push_word-star Y rowed positive n (suc k) size acts (past Y n k) past-state (star-push_past Y rowed positive n (suc k) size acts k) s u h
+    pub past-word : (s : State) (u : List ℕ) → IsState Y n s
+        → push_word (past Y n k) s u ≡ star Y n (suc k) s (push_word (past Y n k) (identity Y n) u)
+    past-word s u h =
+        push_word-star Y rowed positive n (suc k) size acts (past Y n k) past-state
+        (star-push_past Y rowed positive n (suc k) size acts k) s u h
 
     -- the product with a passed state
-    pub star-passed : (s t : State) → IsState Y n s → push_configuration Y (past Y n k) s (configuration_of t) ≡ star Y n (suc k) s (passed Y n k t)
+    pub star-passed : (s t : State) → IsState Y n s
+        → push_configuration Y (past Y n k) s (configuration_of t) ≡ star Y n (suc k) s (passed Y n k t)
     star-passed s t h =
         ap (add_row Y.base.prime t.row) (past-word s (spelled 0 t.exponents) h)
         ∙ sym (star-add_row Y n (suc k) t.row s (push_word (past Y n k) (identity Y n) (spelled 0 t.exponents)))
@@ -115,7 +132,8 @@ module _ (Y : RowedPresentation) (rowed : IsRowed Y) (positive : 0 < Y.base.prim
         → add_row Y.base.prime (power_row Y k) (push_word (plain Y (suc n) k) (before e s) (spelled 1 (power_side Y.base k)))
         ≡ before e (star Y n (suc k) s (full_power Y n k))
     power-end e s h =
-        ap (λ (u : List ℕ). add_row Y.base.prime (power_row Y k) (push_word (plain Y (suc n) k) (before e s) u)) (spelled-suc 0 (power_side Y.base k))
+        ap (λ (u : List ℕ). add_row Y.base.prime (power_row Y k) (push_word (plain Y (suc n) k) (before e s) u))
+        (spelled-suc 0 (power_side Y.base k))
         ∙ ap (add_row Y.base.prime (power_row Y k)) (plain-later_word Y n k e s (spelled 0 (power_side Y.base k)))
         ∙ ap (before e)
         (ap (push_power Y (plain Y n (suc k)) k) (sym (star-identity_right Y n (suc k) s h))
@@ -162,12 +180,15 @@ module _ (Y : RowedPresentation) (rowed : IsRowed Y) (positive : 0 < Y.base.prim
             let p : ℕ = Y.base.prime in
             let w : State = full_power Y n k in
             let g : State = plain Y n (suc k) (identity Y n) j in
-            let gs : IsState Y n (plain Y n (suc k) (identity Y n) j) = plain-state Y rowed positive n (suc k) (identity Y n) j (identity-state Y n positive) in
+            let gs : IsState Y n (plain Y n (suc k) (identity Y n) j) =
+            plain-state Y rowed positive n (suc k) (identity Y n) j (identity-state Y n positive) in
             let ss = passed_times-state Y.base.prime s h in
-            let ps : plain Y n (suc k) s j ≡ star Y n (suc k) s (plain Y n (suc k) (identity Y n) j) = push-star Y rowed positive n (suc k) size acts s j h in
+            let ps : plain Y n (suc k) s j ≡ star Y n (suc k) s (plain Y n (suc k) (identity Y n) j) =
+            push-star Y rowed positive n (suc k) size acts s j h in
             ap (λ (z : State). star Y n (suc k) (full_power Y n k) (passed_times Y n k Y.base.prime z)) ps
             ∙ ap (star Y n (suc k) (full_power Y n k)) (passed_times-star Y.base.prime s g h gs)
-            ∙ sym (star-assoc Y rowed positive n (suc k) size acts w (passed_times Y n k Y.base.prime s) (passed_times Y n k Y.base.prime g) full_power-state ss)
+            ∙ sym (star-assoc Y rowed positive n (suc k) size acts w (passed_times Y n k Y.base.prime s)
+            (passed_times Y n k Y.base.prime g) full_power-state ss)
             ∙ ap (λ (z : State). star Y n (suc k) z (passed_times Y n k Y.base.prime (plain Y n (suc k) (identity Y n) j))) e
             ∙ star-assoc Y rowed positive n (suc k) size acts s w (passed_times Y n k Y.base.prime g) h full_power-state
             ∙ ap (star Y n (suc k) s) (turns j l)
@@ -201,5 +222,6 @@ module _ (Y : RowedPresentation) (rowed : IsRowed Y) (positive : 0 < Y.base.prim
             turn-push_word (identity Y n) u (identity-state Y n positive) (AllBelow-spelled n 0 s.exponents (omega arith)) at_identity in
             let whole : Turns (star Y n (suc k) (identity Y n) s) =
             turn-add_row s.row (push_word (plain Y n (suc k)) (identity Y n) u)
-            (push_word-keeps (plain Y n (suc k)) (IsState Y n) (plain-state Y rowed positive n (suc k)) (identity Y n) u (identity-state Y n positive)) built in
+            (push_word-keeps (plain Y n (suc k)) (IsState Y n) (plain-state Y rowed positive n (suc k)) (identity Y n) u
+            (identity-state Y n positive)) built in
             subst (λ (z : State). Turns z) (star-identity_left Y n (suc k) s h) whole

@@ -1,14 +1,18 @@
 -- The plain rule clause by clause. Rows ride along a push, earlier exponents are final, and the letters of a state
 -- pushed on the state of zeros give the state.
-use Rattle.std.proofs.Common.{◌≡◌, ℕ, zero, suc, ◌+◌, ◌<◌, ◌≤◌, Bool, true, false, eqb, List, [], ◌∷◌, ◌++◌, map, replicate, refl, ap, sym, ◌∙◌, subst, arith, inl, inr}
+use Rattle.std.proofs.Common.{◌≡◌, ℕ, zero, suc, ◌+◌, ◌<◌, ◌≤◌, Bool, true, false, eqb, List, [], ◌∷◌, ◌++◌, map, replicate, refl, ap, sym}
+use Rattle.std.proofs.Common.{◌∙◌, subst, arith, inl, inr}
 use Rattle.std.proofs.lemmas.List.{map-append}
 use Rattle.std.proofs.lemmas.Bool.{cases_lt, eq-eqb}
 use Rattle.std.proofs.lemmas.Bool.Decides.{eqb_tells}
 use Rattle.pq_base.specs.Presentation.{IsNormal, power_side, commutator_side}
 use Rattle.pc_presentation.specs.Rowed.{RowedPresentation, IsRowed, power_row, commutator_row, row_sum}
-use Rattle.pc_presentation.specs.Collection.{Configuration, State, IsState, identity, spelled, add_row, before, push_word, push_configuration, push_power, push_past, raise, plain_push_from}
-use Rattle.pc_presentation.proofs.rows.RowLaws.{zeros-row_sum, add_row-state, before-state, zeros-normal, power_row-addable, commutator_row-addable, is_before}
-use Rattle.pc_presentation.proofs.collecting.PushLaws.{Rides, push_word-append, push_word-add_row, push_configuration-add_row, push_word-keeps}
+use Rattle.pc_presentation.specs.Collection.{Configuration, State, IsState, identity, spelled, add_row, before, push_word}
+use Rattle.pc_presentation.specs.Collection.{push_configuration, push_power, push_past, raise, plain_push_from}
+use Rattle.pc_presentation.proofs.rows.RowLaws.{zeros-row_sum, add_row-state, before-state, zeros-normal, power_row-addable}
+use Rattle.pc_presentation.proofs.rows.RowLaws.{commutator_row-addable, is_before}
+use Rattle.pc_presentation.proofs.collecting.PushLaws.{Rides, push_word-append, push_word-add_row, push_configuration-add_row}
+use Rattle.pc_presentation.proofs.collecting.PushLaws.{push_word-keeps}
 
 -- the plain rule on states, with n generators from place k on
 abbrev pub plain : RowedPresentation → ℕ → ℕ → State → ℕ → State
@@ -19,12 +23,14 @@ pub plain-none : (Y : RowedPresentation) (k : ℕ) (s : State) (i : ℕ) → pla
 unfolding plain_push_from
 plain-none Y k s i = refl
 
-pub plain-later : (Y : RowedPresentation) (n k e : ℕ) (s : State) (i : ℕ) → plain Y (suc n) k (before e s) (suc i) ≡ before e (plain Y n (suc k) s i)
+pub plain-later : (Y : RowedPresentation) (n k e : ℕ) (s : State) (i : ℕ)
+    → plain Y (suc n) k (before e s) (suc i) ≡ before e (plain Y n (suc k) s i)
 unfolding plain_push_from
 plain-later Y n k e s i = refl
 
 pub plain-first : (Y : RowedPresentation) (n k e : ℕ) (s : State)
-    → plain Y (suc n) k (before e s) 0 ≡ raise (eqb (suc e) Y.base.prime) Y (plain Y n (suc k)) k e (record { exponents = replicate n 0; row = s.row }) s.exponents
+    → plain Y (suc n) k (before e s) 0
+    ≡ raise (eqb (suc e) Y.base.prime) Y (plain Y n (suc k)) k e (record { exponents = replicate n 0; row = s.row }) s.exponents
 unfolding plain_push_from
 plain-first Y n k e s = refl
 
@@ -36,7 +42,8 @@ less_unequal a b h = elim (eqb_tells a b) [
 
 pub plain-raise : (Y : RowedPresentation) (n k e : ℕ) (s : State) → suc e < Y.base.prime
     → plain Y (suc n) k (before e s) 0
-    ≡ before (suc e) (push_word (push_past Y (plain Y n (suc k)) k) (record { exponents = replicate n 0; row = s.row }) (spelled 0 s.exponents))
+    ≡ before (suc e) (push_word (push_past Y (plain Y n (suc k)) k) (record { exponents = replicate n 0; row = s.row })
+    (spelled 0 s.exponents))
 plain-raise Y n k e s h =
     plain-first Y n k e s
     ∙ ap (λ (b : Bool). raise b Y (plain Y n (suc k)) k e (record { exponents = replicate n 0; row = s.row }) s.exponents)
@@ -44,14 +51,16 @@ plain-raise Y n k e s h =
 
 pub plain-carry : (Y : RowedPresentation) (n k e : ℕ) (s : State) → suc e ≡ Y.base.prime
     → plain Y (suc n) k (before e s) 0
-    ≡ before 0 (push_word (push_past Y (plain Y n (suc k)) k) (push_power Y (plain Y n (suc k)) k (record { exponents = replicate n 0; row = s.row })) (spelled 0 s.exponents))
+    ≡ before 0 (push_word (push_past Y (plain Y n (suc k)) k)
+    (push_power Y (plain Y n (suc k)) k (record { exponents = replicate n 0; row = s.row })) (spelled 0 s.exponents))
 plain-carry Y n k e s h =
     plain-first Y n k e s
     ∙ ap (λ (b : Bool). raise b Y (plain Y n (suc k)) k e (record { exponents = replicate n 0; row = s.row }) s.exponents)
     (eq-eqb (suc e) Y.base.prime h)
 
 -- a letter beyond the last generator does nothing
-past_end_from : (Y : RowedPresentation) (n k : ℕ) (h x : List ℕ) (i : ℕ) → n ≤ i → plain_push_from Y n k h x i ≡ record { exponents = h; row = x }
+past_end_from : (Y : RowedPresentation) (n k : ℕ) (h x : List ℕ) (i : ℕ) → n ≤ i
+    → plain_push_from Y n k h x i ≡ record { exponents = h; row = x }
 unfolding plain_push_from
 past_end_from Y zero k h x i l = refl
 past_end_from Y (suc n) k [] x i l = refl
@@ -62,17 +71,21 @@ pub plain-past_end : (Y : RowedPresentation) (n k : ℕ) (s : State) (i : ℕ) �
 plain-past_end Y n k s i l = past_end_from Y n k s.exponents s.row i l
 
 -- rows ride along
-pub push_past-rides : (Y : RowedPresentation) (push : State → ℕ → State) (k : ℕ) → Rides Y.base.prime push → Rides Y.base.prime (push_past Y push k)
+pub push_past-rides : (Y : RowedPresentation) (push : State → ℕ → State) (k : ℕ) → Rides Y.base.prime push
+    → Rides Y.base.prime (push_past Y push k)
 push_past-rides Y push k r t s j =
-    let c : Configuration = record { word = spelled (suc j) (commutator_side Y.base (suc (k + j)) k); row = commutator_row Y (suc (k + j)) k } in
+    let c : Configuration =
+    record { word = spelled (suc j) (commutator_side Y.base (suc (k + j)) k); row = commutator_row Y (suc (k + j)) k } in
     ap (λ (z : State). push_configuration Y push z c) (r t s j) ∙ push_configuration-add_row Y push r t (push s j) c
 
-raise-add_row : (b : Bool) (Y : RowedPresentation) (push : State → ℕ → State) (k e : ℕ) → Rides Y.base.prime push → (t : List ℕ) (start : State) (h : List ℕ)
+raise-add_row : (b : Bool) (Y : RowedPresentation) (push : State → ℕ → State) (k e : ℕ) → Rides Y.base.prime push
+    → (t : List ℕ) (start : State) (h : List ℕ)
     → raise b Y push k e (add_row Y.base.prime t start) h ≡ add_row Y.base.prime t (raise b Y push k e start h)
 raise-add_row true Y push k e r t start h =
     let c : Configuration = record { word = spelled 0 (power_side Y.base k); row = power_row Y k } in
     ap (λ (z : State). before 0 (push_word (push_past Y push k) z (spelled 0 h))) (push_configuration-add_row Y push r t start c)
-    ∙ ap (before 0) (push_word-add_row Y.base.prime (push_past Y push k) (push_past-rides Y push k r) t (push_power Y push k start) (spelled 0 h))
+    ∙ ap (before 0) (push_word-add_row Y.base.prime (push_past Y push k) (push_past-rides Y push k r) t (push_power Y push k start)
+    (spelled 0 h))
 raise-add_row false Y push k e r t start h =
     ap (before (suc e)) (push_word-add_row Y.base.prime (push_past Y push k) (push_past-rides Y push k r) t start (spelled 0 h))
 
@@ -101,7 +114,8 @@ module _ (Y : RowedPresentation) (rowed : IsRowed Y) (positive : 0 < Y.base.prim
       → (s : State) (j : ℕ) → IsState Y n s → IsState Y n (push_past Y push k s j)
   push_past-state n push k keeps s j h =
       add_row-state Y n (commutator_row Y (suc (k + j)) k)
-      (push_word push (push s j) (spelled (suc j) (commutator_side Y.base (suc (k + j)) k))) positive (commutator_row-addable Y rowed (suc (k + j)) k)
+      (push_word push (push s j) (spelled (suc j) (commutator_side Y.base (suc (k + j)) k))) positive
+      (commutator_row-addable Y rowed (suc (k + j)) k)
       (push_word-keeps push (IsState Y n) keeps (push s j) (spelled (suc j) (commutator_side Y.base (suc (k + j)) k)) (keeps s j h))
 
   start-state : (n : ℕ) (s : State) → IsState Y n s → IsState Y n (record { exponents = replicate n 0; row = s.row })
@@ -109,15 +123,18 @@ module _ (Y : RowedPresentation) (rowed : IsRowed Y) (positive : 0 < Y.base.prim
 
   module _ (n k : ℕ) (inner : (s : State) (i : ℕ) → IsState Y n s → IsState Y n (plain Y n (suc k) s i)) where
     past-kept : (s : State) (u : List ℕ) → IsState Y n s → IsState Y n (push_word (push_past Y (plain Y n (suc k)) k) s u)
-    past-kept s u h = push_word-keeps (push_past Y (plain Y n (suc k)) k) (IsState Y n) (push_past-state n (plain Y n (suc k)) k inner) s u h
+    past-kept s u h =
+        push_word-keeps (push_past Y (plain Y n (suc k)) k) (IsState Y n) (push_past-state n (plain Y n (suc k)) k inner) s u h
 
     before-kept : (i e : ℕ) (r : State) → e < Y.base.prime → IsState Y n r → IsState Y (suc n) (plain Y (suc n) k (before e r) i)
     before-kept (suc i) e r l h =
-        subst (λ (z : State). IsState Y (suc n) z) (sym (plain-later Y n k e r i)) (before-state Y n e (plain Y n (suc k) r i) l (inner r i h))
+        subst (λ (z : State). IsState Y (suc n) z) (sym (plain-later Y n k e r i))
+        (before-state Y n e (plain Y n (suc k) r i) l (inner r i h))
     before-kept zero e r l h = elim (cases_lt (suc e) Y.base.prime) [
       | inl m ↦
           subst (λ (z : State). IsState Y (suc n) z) (sym (plain-raise Y n k e r m))
-          (before-state Y n (suc e) _ m (past-kept (record { exponents = replicate n 0; row = r.row }) (spelled 0 r.exponents) (start-state n r h)))
+          (before-state Y n (suc e) _ m
+          (past-kept (record { exponents = replicate n 0; row = r.row }) (spelled 0 r.exponents) (start-state n r h)))
       | inr m ↦
           subst (λ (z : State). IsState Y (suc n) z) (sym (plain-carry Y n k e r (omega arith)))
           (before-state Y n 0 _ positive
@@ -137,7 +154,8 @@ pub plain-later_word : (Y : RowedPresentation) (n k e : ℕ) (s : State) (u : Li
     → push_word (plain Y (suc n) k) (before e s) (map suc u) ≡ before e (push_word (plain Y n (suc k)) s u)
 plain-later_word Y n k e s [] = refl
 plain-later_word Y n k e s (i ∷ u) =
-    ap (λ (z : State). push_word (plain Y (suc n) k) z (map suc u)) (plain-later Y n k e s i) ∙ plain-later_word Y n k e (plain Y n (suc k) s i) u
+    ap (λ (z : State). push_word (plain Y (suc n) k) z (map suc u)) (plain-later Y n k e s i)
+    ∙ plain-later_word Y n k e (plain Y n (suc k) s i) u
 
 -- spelled exponents
 pub map-replicate : (e i : ℕ) → map suc (replicate e i) ≡ replicate e (suc i)
@@ -157,14 +175,16 @@ spelled-zeros i (suc n) = spelled-zeros (suc i) n
 
 -- the letters of a state pushed on the state of zeros give the state
 raised : (Y : RowedPresentation) (n k a e f : ℕ) (x : List ℕ) → a + e ≡ f → f < Y.base.prime
-    → push_word (plain Y (suc n) k) (before a (record { exponents = replicate n 0; row = x })) (replicate e 0) ≡ before f (record { exponents = replicate n 0; row = x })
+    → push_word (plain Y (suc n) k) (before a (record { exponents = replicate n 0; row = x })) (replicate e 0)
+    ≡ before f (record { exponents = replicate n 0; row = x })
 raised Y n k a zero f x s l =
     let e : a ≡ f = omega arith in
     ap (λ (m : ℕ). before m (record { exponents = replicate n 0; row = x })) e
 raised Y n k a (suc e) f x s l =
     ap (λ (z : State). push_word (plain Y (suc n) k) z (replicate e 0))
     (plain-raise Y n k a (record { exponents = replicate n 0; row = x }) (omega arith)
-    ∙ ap (λ (u : List ℕ). before (suc a) (push_word (push_past Y (plain Y n (suc k)) k) (record { exponents = replicate n 0; row = x }) u)) (spelled-zeros 0 n))
+    ∙ ap (λ (u : List ℕ). before (suc a) (push_word (push_past Y (plain Y n (suc k)) k) (record { exponents = replicate n 0; row = x }) u))
+    (spelled-zeros 0 n))
     ∙ raised Y n k (suc a) e f x (omega arith) l
 
 pub plain-spelled : (Y : RowedPresentation) (n k : ℕ) (h x : List ℕ) → IsNormal Y.base.prime n h

@@ -12,12 +12,14 @@ push_word-append f s [] v = refl
 push_word-append f s (i ∷ u) v = push_word-append f (f s i) u v
 
 -- pushes that differ by nothing
-pub push_word-same : (f g : State → ℕ → State) → ((s : State) (i : ℕ) → f s i ≡ g s i) → (s : State) (u : List ℕ) → push_word f s u ≡ push_word g s u
+pub push_word-same : (f g : State → ℕ → State) → ((s : State) (i : ℕ) → f s i ≡ g s i) → (s : State) (u : List ℕ)
+    → push_word f s u ≡ push_word g s u
 push_word-same f g e s [] = refl
 push_word-same f g e s (i ∷ u) = push_word-same f g e (f s i) u ∙ ap (λ (t : State). push_word g t u) (e s i)
 
 -- what one push keeps
-pub push_word-keeps : (f : State → ℕ → State) (V : State → Type 0) → ((s : State) (i : ℕ) → V s → V (f s i)) → (s : State) (u : List ℕ) → V s → V (push_word f s u)
+pub push_word-keeps : (f : State → ℕ → State) (V : State → Type 0) → ((s : State) (i : ℕ) → V s → V (f s i)) → (s : State) (u : List ℕ)
+    → V s → V (push_word f s u)
 push_word-keeps f V k s [] v = v
 push_word-keeps f V k s (i ∷ u) v = push_word-keeps f V k (f s i) u (k s i v)
 
@@ -31,7 +33,8 @@ push_word-add_row p f r t s [] = refl
 push_word-add_row p f r t s (i ∷ u) =
     ap (λ (x : State). push_word f x u) (r t s i) ∙ push_word-add_row p f r t (f s i) u
 
-pub push_configuration-add_row : (Y : RowedPresentation) (f : State → ℕ → State) → Rides Y.base.prime f → (t : List ℕ) (s : State) (c : Configuration)
+pub push_configuration-add_row : (Y : RowedPresentation) (f : State → ℕ → State) → Rides Y.base.prime f
+    → (t : List ℕ) (s : State) (c : Configuration)
     → push_configuration Y f (add_row Y.base.prime t s) c ≡ add_row Y.base.prime t (push_configuration Y f s c)
 push_configuration-add_row Y f r t s c =
     ap (add_row Y.base.prime c.row) (push_word-add_row Y.base.prime f r t s c.word)
@@ -43,7 +46,8 @@ Acts p f V R = (s : State) → V s → (l r t : List ℕ) → R l r t → push_w
 
 module _ (Y : RowedPresentation) (f : State → ℕ → State) (V : State → Type 0) (R : List ℕ → List ℕ → List ℕ → Type 0)
     (rides : Rides Y.base.prime f) (keeps : (s : State) (i : ℕ) → V s → V (f s i)) (acts : Acts Y.base.prime f V R) where
-  pub step-acts : {c d : Configuration} → Step Y.base.prime R c d → (s : State) → V s → push_configuration Y f s c ≡ push_configuration Y f s d
+  pub step-acts : {c d : Configuration} → Step Y.base.prime R c d → (s : State) → V s
+      → push_configuration Y f s c ≡ push_configuration Y f s d
   step-acts (replace a l r b t x h) s v =
       let at_left : State = push_word f s a in
       let whole : push_word f s (a ++ (l ++ b)) ≡ add_row Y.base.prime t (push_word f s (a ++ (r ++ b))) =
@@ -56,6 +60,7 @@ module _ (Y : RowedPresentation) (f : State → ℕ → State) (V : State → Ty
       ∙ add_row-add_row Y.base.prime x t (push_word f s (a ++ (r ++ b)))
       ∙ ap (λ (z : List ℕ). add_row Y.base.prime z (push_word f s (a ++ (r ++ b)))) (row_sum-comm Y.base.prime t x)
 
-  pub run-acts : {c d : Configuration} → Run Y.base.prime R c d → (s : State) → V s → push_configuration Y f s c ≡ push_configuration Y f s d
+  pub run-acts : {c d : Configuration} → Run Y.base.prime R c d → (s : State) → V s
+      → push_configuration Y f s c ≡ push_configuration Y f s d
   run-acts stop s v = refl
   run-acts (move m n) s v = step-acts m s v ∙ run-acts n s v

@@ -1,6 +1,7 @@
 -- The step to one generator more: where the relations of the later generators act on their states, also on passed ones,
 -- where the full power turns each generator round and is passed unchanged, the relations of all these generators act.
-use Rattle.std.proofs.Common.{◌≡◌, ℕ, zero, suc, ◌+◌, ◌-◌, ◌<◌, List, [], ◌∷◌, ◌++◌, map, replicate, refl, ap, sym, ◌∙◌, subst, arith, inl, inr}
+use Rattle.std.proofs.Common.{◌≡◌, ℕ, zero, suc, ◌+◌, ◌-◌, ◌<◌, List, [], ◌∷◌, ◌++◌, map, replicate, refl, ap, sym, ◌∙◌, subst, arith, inl}
+use Rattle.std.proofs.Common.{inr}
 use Rattle.std.proofs.lemmas.List.{replicate-append-replicate}
 use Rattle.std.proofs.lemmas.Bool.{cases_lt}
 use Rattle.pq_base.specs.Presentation.{power_side, commutator_side}
@@ -12,7 +13,9 @@ use Rattle.pc_presentation.proofs.collecting.PlainRule.{plain, plain-later, plai
 use Rattle.pc_presentation.proofs.collecting.RunLaws.{ReplacementFrom}
 use Rattle.pc_presentation.proofs.collecting.RunLaws.ReplacementFrom.{swap_from, power_from}
 use Rattle.pc_presentation.proofs.collecting.StateProducts.{star, star-state, RelationsAct, star-push_past}
-use Rattle.pc_presentation.proofs.collecting.PassedStates.{power-end, past, passed, passed_times, full_power, passed-state, full_power-state, passed_times-state, passed_times-add, first-raise, first-times, first-carry, passed-push, passed_times-star, full_power-turns}
+use Rattle.pc_presentation.proofs.collecting.PassedStates.{power-end, past, passed, passed_times, full_power, passed-state}
+use Rattle.pc_presentation.proofs.collecting.PassedStates.{full_power-state, passed_times-state, passed_times-add, first-raise, first-times}
+use Rattle.pc_presentation.proofs.collecting.PassedStates.{first-carry, passed-push, passed_times-star, full_power-turns}
 
 module _ (Y : RowedPresentation) (rowed : IsRowed Y) (positive : 0 < Y.base.prime) (n k : ℕ) (size : suc k + n ≡ Y.base.rank)
     (acts : RelationsAct Y n (suc k))
@@ -23,7 +26,8 @@ module _ (Y : RowedPresentation) (rowed : IsRowed Y) (positive : 0 < Y.base.prim
     (fixed : passed Y n k (full_power Y n k) ≡ full_power Y n k) where
   -- relations between later generators
   later_acts : (e : ℕ) (s : State) → IsState Y n s → (l r t : List ℕ) → ReplacementFrom Y (suc k) l r t
-      → push_word (plain Y (suc n) k) (before e s) (map suc l) ≡ add_row Y.base.prime t (push_word (plain Y (suc n) k) (before e s) (map suc r))
+      → push_word (plain Y (suc n) k) (before e s) (map suc l)
+      ≡ add_row Y.base.prime t (push_word (plain Y (suc n) k) (before e s) (map suc r))
   later_acts e s h l r t m =
       plain-later_word Y n k e s l ∙ ap (before e) (acts s h l r t m) ∙ ap (add_row Y.base.prime t) (sym (plain-later_word Y n k e s r))
 
@@ -40,8 +44,10 @@ module _ (Y : RowedPresentation) (rowed : IsRowed Y) (positive : 0 < Y.base.prim
     | inr a ↦
         let w : State = full_power Y n k in
         start ∙ first-carry Y rowed positive n k size acts e (plain Y n (suc k) s j) (omega arith) js
-        ∙ ap (λ (z : State). before 0 (star Y n (suc k) (full_power Y n k) z)) (passed-push Y rowed positive n k size acts passed_acts s j h m)
-        ∙ ap (before 0) (star-push_past Y rowed positive n (suc k) size acts k w (passed Y n k s) j (full_power-state Y rowed positive n k) (passed-state Y rowed positive n k s h))
+        ∙ ap (λ (z : State). before 0 (star Y n (suc k) (full_power Y n k) z))
+        (passed-push Y rowed positive n k size acts passed_acts s j h m)
+        ∙ ap (before 0) (star-push_past Y rowed positive n (suc k) size acts k w (passed Y n k s) j (full_power-state Y rowed positive n k)
+        (passed-state Y rowed positive n k s h))
         ∙ sym (end 0 (star Y n (suc k) w (passed Y n k s)) (first-carry Y rowed positive n k size acts e s (omega arith) h))
   ]
     where
@@ -59,8 +65,10 @@ module _ (Y : RowedPresentation) (rowed : IsRowed Y) (positive : 0 < Y.base.prim
           (push_word (plain Y (suc n) k) (before e s) (0 ∷ suc j ∷ spelled (suc (suc j)) (commutator_side Y.base (suc (k + j)) k)))
           ≡ before c (past Y n k z j)
       end c z q =
-          ap (λ (y : State). add_row Y.base.prime (commutator_row Y (suc (k + j)) k) (push_word (plain Y (suc n) k) y (suc j ∷ spelled (suc (suc j)) (commutator_side Y.base (suc (k + j)) k)))) q
-          ∙ ap (λ (u : List ℕ). add_row Y.base.prime (commutator_row Y (suc (k + j)) k) (push_word (plain Y (suc n) k) (before c z) (suc j ∷ u)))
+          ap (λ (y : State). add_row Y.base.prime (commutator_row Y (suc (k + j)) k)
+          (push_word (plain Y (suc n) k) y (suc j ∷ spelled (suc (suc j)) (commutator_side Y.base (suc (k + j)) k)))) q
+          ∙ ap (λ (u : List ℕ). add_row Y.base.prime (commutator_row Y (suc (k + j)) k)
+          (push_word (plain Y (suc n) k) (before c z) (suc j ∷ u)))
           (spelled-suc (suc j) (commutator_side Y.base (suc (k + j)) k))
           ∙ ap (add_row Y.base.prime (commutator_row Y (suc (k + j)) k))
           (plain-later_word Y n k c z (j ∷ spelled (suc j) (commutator_side Y.base (suc (k + j)) k)))
@@ -82,10 +90,12 @@ module _ (Y : RowedPresentation) (rowed : IsRowed Y) (positive : 0 < Y.base.prim
       sym (replicate-append-replicate {A = ℕ} d (suc e) 0 ∙ ap (λ (m : ℕ). replicate m 0) q) in
       ap (push_word (plain Y (suc n) k) (before e s)) letters
       ∙ push_word-append (plain Y (suc n) k) (before e s) (replicate d 0) (0 ∷ replicate e 0)
-      ∙ ap (λ (z : State). push_word (plain Y (suc n) k) z (0 ∷ replicate e 0)) (first-times Y rowed positive n k e d (e + d) s refl (omega arith) h)
+      ∙ ap (λ (z : State). push_word (plain Y (suc n) k) z (0 ∷ replicate e 0))
+      (first-times Y rowed positive n k e d (e + d) s refl (omega arith) h)
       ∙ ap (λ (z : State). push_word (plain Y (suc n) k) z (replicate e 0))
       (first-carry Y rowed positive n k size acts (e + d) (passed_times Y n k d s) (omega arith) ds)
-      ∙ first-times Y rowed positive n k 0 e e (star Y n (suc k) w y) (omega arith) (omega arith) (star-state Y rowed positive n (suc k) w y ws ys)
+      ∙ first-times Y rowed positive n k 0 e e (star Y n (suc k) w y) (omega arith) (omega arith)
+      (star-state Y rowed positive n (suc k) w y ws ys)
       ∙ ap (before e)
       (passed_times-star Y rowed positive n k size acts passed_acts e w y ws ys
       ∙ ap (λ (z : State). star Y n (suc k) z (passed_times Y n k e y)) (fixed_times e)
@@ -105,9 +115,11 @@ module _ (Y : RowedPresentation) (rowed : IsRowed Y) (positive : 0 < Y.base.prim
       let x : suc (k + j) ≡ a = omega arith in
       let y : k ≡ b = omega arith in
       subst (λ (z : ℕ). push_word (plain Y (suc n) k) (before e s) (suc j ∷ 0 ∷ [])
-      ≡ add_row Y.base.prime (commutator_row Y a z) (push_word (plain Y (suc n) k) (before e s) (0 ∷ suc j ∷ spelled (suc (suc j)) (commutator_side Y.base a z)))) y
+      ≡ add_row Y.base.prime (commutator_row Y a z)
+      (push_word (plain Y (suc n) k) (before e s) (0 ∷ suc j ∷ spelled (suc (suc j)) (commutator_side Y.base a z)))) y
       (subst (λ (z : ℕ). push_word (plain Y (suc n) k) (before e s) (suc j ∷ 0 ∷ [])
-      ≡ add_row Y.base.prime (commutator_row Y z k) (push_word (plain Y (suc n) k) (before e s) (0 ∷ suc j ∷ spelled (suc (suc j)) (commutator_side Y.base z k)))) x
+      ≡ add_row Y.base.prime (commutator_row Y z k)
+      (push_word (plain Y (suc n) k) (before e s) (0 ∷ suc j ∷ spelled (suc (suc j)) (commutator_side Y.base z k)))) x
       (first_swap e s j l h (omega arith)))
   relations_before e s l h _ _ _ (swap_from (suc j) (suc i) a b f g m q) =
       later_acts e s h (j ∷ i ∷ []) (i ∷ j ∷ spelled (suc j) (commutator_side Y.base a b)) (commutator_row Y a b)
@@ -122,7 +134,8 @@ module _ (Y : RowedPresentation) (rowed : IsRowed Y) (positive : 0 < Y.base.prim
   relations_before e s l h _ _ _ (power_from (suc i) a f m) =
       ap (push_word (plain Y (suc n) k) (before e s)) (sym (map-replicate Y.base.prime i))
       ∙ later_acts e s h (replicate Y.base.prime i) (spelled (suc i) (power_side Y.base a)) (power_row Y a) (power_from i a (omega arith) m)
-      ∙ ap (λ (u : List ℕ). add_row Y.base.prime (power_row Y a) (push_word (plain Y (suc n) k) (before e s) u)) (sym (spelled-suc (suc i) (power_side Y.base a)))
+      ∙ ap (λ (u : List ℕ). add_row Y.base.prime (power_row Y a) (push_word (plain Y (suc n) k) (before e s) u))
+      (sym (spelled-suc (suc i) (power_side Y.base a)))
 
   pub relations-act : RelationsAct Y (suc n) k
   relations-act s v l r t m =

@@ -55,9 +55,11 @@ module _ {p : ℕ} {R : List ℕ → List ℕ → List ℕ → Type 0} where
   run-row z (move s m) = move (step-row z s) (run-row z m)
 
   -- one replacement
-  pub run-replacement : (l r b t x : List ℕ) → R l r t → Run p R (record { word = l ++ b; row = x }) (record { word = r ++ b; row = row_sum p x t })
+  pub run-replacement : (l r b t x : List ℕ) → R l r t
+      → Run p R (record { word = l ++ b; row = x }) (record { word = r ++ b; row = row_sum p x t })
   run-replacement l r b t x h =
-      let s : Step p R (record { word = [] ++ (l ++ b); row = x }) (record { word = [] ++ (r ++ b); row = row_sum p x t }) = replace [] l r b t x h in
+      let s : Step p R (record { word = [] ++ (l ++ b); row = x }) (record { word = [] ++ (r ++ b); row = row_sum p x t }) =
+      replace [] l r b t x h in
       move s stop
 
 -- other replacements
@@ -92,19 +94,22 @@ replacement_at_start Y _ _ _ (swap_from j i a b e f h m) =
     (swap j i (omega arith) m))
 replacement_at_start Y _ _ _ (power_from i a e h) =
     let g : i ≡ a = omega arith in
-    subst (λ (z : ℕ). Replacement Y (replicate Y.base.prime i) (spelled (suc i) (power_side Y.base z)) (power_row Y z)) g (power i (omega arith))
+    subst (λ (z : ℕ). Replacement Y (replicate Y.base.prime i) (spelled (suc i) (power_side Y.base z)) (power_row Y z)) g
+    (power i (omega arith))
 
 -- the letters of later generators, counted from one place before
 abbrev pub later : Configuration → Configuration
 later c = record { word = map suc c.word; row = c.row }
 
-pub replacement-later : (Y : RowedPresentation) (k : ℕ) {l r t : List ℕ} → ReplacementFrom Y (suc k) l r t → ReplacementFrom Y k (map suc l) (map suc r) t
+pub replacement-later : (Y : RowedPresentation) (k : ℕ) {l r t : List ℕ} → ReplacementFrom Y (suc k) l r t
+    → ReplacementFrom Y k (map suc l) (map suc r) t
 replacement-later Y k (swap_from j i a b e f h m) =
     subst (λ (w : List ℕ). ReplacementFrom Y k (suc j ∷ suc i ∷ []) (suc i ∷ suc j ∷ w) (commutator_row Y a b))
     (spelled-suc (suc j) (commutator_side Y.base a b))
     (swap_from (suc j) (suc i) a b (omega arith) (omega arith) h (omega arith))
 replacement-later Y k (power_from i a e h) =
-    subst (λ (w : List ℕ). ReplacementFrom Y k w (map suc (spelled (suc i) (power_side Y.base a))) (power_row Y a)) (sym (map-replicate Y.base.prime i))
+    subst (λ (w : List ℕ). ReplacementFrom Y k w (map suc (spelled (suc i) (power_side Y.base a))) (power_row Y a))
+    (sym (map-replicate Y.base.prime i))
     (subst (λ (w : List ℕ). ReplacementFrom Y k (replicate Y.base.prime (suc i)) w (power_row Y a))
     (spelled-suc (suc i) (power_side Y.base a))
     (power_from (suc i) a (omega arith) h))

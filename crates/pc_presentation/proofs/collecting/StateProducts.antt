@@ -4,10 +4,12 @@ use Rattle.std.proofs.Common.{◌≡◌, ℕ, suc, ◌+◌, ◌<◌, List, [], �
 use Rattle.std.proofs.lemmas.Bool.{cases_lt}
 use Rattle.pq_base.specs.Presentation.{power_side, commutator_side}
 use Rattle.pc_presentation.specs.Rowed.{RowedPresentation, IsRowed, power_row, commutator_row}
-use Rattle.pc_presentation.specs.Collection.{Configuration, State, IsState, identity, spelled, configuration_of, add_row, push_word, push_configuration, push_power, push_past}
+use Rattle.pc_presentation.specs.Collection.{Configuration, State, IsState, identity, spelled, configuration_of, add_row, push_word}
+use Rattle.pc_presentation.specs.Collection.{push_configuration, push_power, push_past}
 use Rattle.pc_presentation.proofs.rows.RowLaws.{row_sum-zeros, add_row-add_row, add_row-state, identity-state}
 use Rattle.pc_presentation.proofs.collecting.PushLaws.{Rides, Acts, push_word-append, push_word-keeps, run-acts}
-use Rattle.pc_presentation.proofs.collecting.PlainRule.{plain, plain-rides, plain-state, plain-past_end, spelled-zeros, push-configuration_of}
+use Rattle.pc_presentation.proofs.collecting.PlainRule.{plain, plain-rides, plain-state, plain-past_end, spelled-zeros}
+use Rattle.pc_presentation.proofs.collecting.PlainRule.{push-configuration_of}
 use Rattle.pc_presentation.proofs.collecting.RunLaws.{ReplacementFrom}
 use Rattle.pc_presentation.proofs.collecting.PlainRuns.{plain-run}
 
@@ -46,7 +48,8 @@ module _ (Y : RowedPresentation) (rowed : IsRowed Y) (positive : 0 < Y.base.prim
   pub push_configuration-state : (f : State → ℕ → State) → ((s : State) (i : ℕ) → IsState Y n s → IsState Y n (f s i))
       → (s t : State) → IsState Y n s → IsState Y n t → IsState Y n (push_configuration Y f s (configuration_of t))
   push_configuration-state f keeps s t h i =
-      add_row-state Y n t.row (push_word f s (spelled 0 t.exponents)) positive (inr i.row) (push_word-keeps f (IsState Y n) keeps s (spelled 0 t.exponents) h)
+      add_row-state Y n t.row (push_word f s (spelled 0 t.exponents)) positive (inr i.row)
+      (push_word-keeps f (IsState Y n) keeps s (spelled 0 t.exponents) h)
 
   pub star-state : (s t : State) → IsState Y n s → IsState Y n t → IsState Y n (star Y n k s t)
   star-state s t h i = push_configuration-state (plain Y n k) (plain-state Y rowed positive n k) s t h i
@@ -87,12 +90,15 @@ module _ (Y : RowedPresentation) (rowed : IsRowed Y) (positive : 0 < Y.base.prim
     pub star-push_past : (k' : ℕ) (s t : State) (j : ℕ) → IsState Y n s → IsState Y n t
         → star Y n k s (push_past Y (plain Y n k) k' t j) ≡ push_past Y (plain Y n k) k' (star Y n k s t) j
     star-push_past k' s t j h v =
-        let c : Configuration = record { word = spelled (suc j) (commutator_side Y.base (suc (k' + j)) k'); row = commutator_row Y (suc (k' + j)) k' } in
-        star-push_configuration (plain Y n k) (plain-state Y rowed positive n k) star-push s (plain Y n k t j) c h (plain-state Y rowed positive n k t j v)
+        let c : Configuration =
+        record { word = spelled (suc j) (commutator_side Y.base (suc (k' + j)) k'); row = commutator_row Y (suc (k' + j)) k' } in
+        star-push_configuration (plain Y n k) (plain-state Y rowed positive n k) star-push s (plain Y n k t j) c h
+        (plain-state Y rowed positive n k t j v)
         ∙ ap (λ (z : State). push_configuration Y (plain Y n k) z c) (star-push s t j h v)
 
     pub star-assoc : (r s t : State) → IsState Y n r → IsState Y n s → star Y n k (star Y n k r s) t ≡ star Y n k r (star Y n k s t)
-    star-assoc r s t h v = sym (star-push_configuration (plain Y n k) (plain-state Y rowed positive n k) star-push r s (configuration_of t) h v)
+    star-assoc r s t h v =
+        sym (star-push_configuration (plain Y n k) (plain-state Y rowed positive n k) star-push r s (configuration_of t) h v)
 
     -- pushes on a state are the product with the pushes on the state of zeros
     pub push_word-star : (f : State → ℕ → State) → ((s : State) (i : ℕ) → IsState Y n s → IsState Y n (f s i)) → Follows f

@@ -36,8 +36,10 @@ step-suffix Y k u v t b s = record {
   left = s.left;
   right = s.right;
   back = s.back ++ b;
-  start = ap (λ (w : List ℕ). w ++ b) s.start ∙ append_assoc s.front (s.left ++ s.back) b ∙ ap (λ (w : List ℕ). s.front ++ w) (append_assoc s.left s.back b);
-  end = ap (λ (w : List ℕ). w ++ b) s.end ∙ append_assoc s.front (s.right ++ s.back) b ∙ ap (λ (w : List ℕ). s.front ++ w) (append_assoc s.right s.back b);
+  start = ap (λ (w : List ℕ). w ++ b) s.start
+      ∙ append_assoc s.front (s.left ++ s.back) b ∙ ap (λ (w : List ℕ). s.front ++ w) (append_assoc s.left s.back b);
+  end = ap (λ (w : List ℕ). w ++ b) s.end
+      ∙ append_assoc s.front (s.right ++ s.back) b ∙ ap (λ (w : List ℕ). s.front ++ w) (append_assoc s.right s.back b);
   replaced = s.replaced;
 }
 
@@ -55,10 +57,12 @@ pub record Behind (Y : RowedPresentation) (k i : ℕ) (u v t : List ℕ) : Type 
   pub end : v ≡ i ∷ rest
   pub step : StepAt Y k u rest t
 
-pub first_letter : (Y : RowedPresentation) (k i : ℕ) (u v t : List ℕ) → StepAt Y k (i ∷ u) v t → AtFront Y k (i ∷ u) v t ⊎ Behind Y k i u v t
+pub first_letter : (Y : RowedPresentation) (k i : ℕ) (u v t : List ℕ) → StepAt Y k (i ∷ u) v t
+    → AtFront Y k (i ∷ u) v t ⊎ Behind Y k i u v t
 first_letter Y k i u v t s = with_front s.front s.start s.end
   where
-    with_front : (a : List ℕ) → i ∷ u ≡ a ++ (s.left ++ s.back) → v ≡ a ++ (s.right ++ s.back) → AtFront Y k (i ∷ u) v t ⊎ Behind Y k i u v t
+    with_front : (a : List ℕ) → i ∷ u ≡ a ++ (s.left ++ s.back) → v ≡ a ++ (s.right ++ s.back)
+        → AtFront Y k (i ∷ u) v t ⊎ Behind Y k i u v t
     with_front [] e f = inl (record { left = s.left; right = s.right; back = s.back; start = e; end = f; replaced = s.replaced })
     with_front (x ∷ a) e f =
         let h : i ≡ x = cc in
@@ -85,6 +89,8 @@ placed_step Y k (replace a l r b t x h) = record {
 pub step_of_place : (Y : RowedPresentation) (k : ℕ) (u v x t : List ℕ) → StepAt Y k u v t
     → Step Y.base.prime (ReplacementFrom Y k) (record { word = u; row = x }) (record { word = v; row = row_sum Y.base.prime x t })
 step_of_place Y k u v x t s =
-    subst (λ (w : List ℕ). Step Y.base.prime (ReplacementFrom Y k) (record { word = w; row = x }) (record { word = v; row = row_sum Y.base.prime x t })) (sym s.start)
-    (subst (λ (w : List ℕ). Step Y.base.prime (ReplacementFrom Y k) (record { word = s.front ++ (s.left ++ s.back); row = x }) (record { word = w; row = row_sum Y.base.prime x t })) (sym s.end)
+    subst (λ (w : List ℕ). Step Y.base.prime (ReplacementFrom Y k) (record { word = w; row = x })
+    (record { word = v; row = row_sum Y.base.prime x t })) (sym s.start)
+    (subst (λ (w : List ℕ). Step Y.base.prime (ReplacementFrom Y k) (record { word = s.front ++ (s.left ++ s.back); row = x })
+    (record { word = w; row = row_sum Y.base.prime x t })) (sym s.end)
     (replace s.front s.left s.right s.back t x s.replaced))

@@ -1,6 +1,7 @@
 -- A replacement in a word of later letters is one between them, also behind copies of the first generator, where no full
 -- power of it stands. So no replacement is possible in the letters of exponents below the prime.
-use Rattle.std.proofs.Common.{◌≡◌, ℕ, zero, suc, ◌+◌, ◌<◌, ◌≤◌, List, [], ◌∷◌, ◌++◌, map, replicate, refl, ap, sym, ◌∙◌, subst, arith, inl, inr}
+use Rattle.std.proofs.Common.{◌≡◌, ℕ, zero, suc, ◌+◌, ◌<◌, ◌≤◌, List, [], ◌∷◌, ◌++◌, map, replicate, refl, ap, sym, ◌∙◌, subst, arith, inl}
+use Rattle.std.proofs.Common.{inr}
 use Rattle.std.proofs.lemmas.List.{map-append}
 use Rattle.pq_base.specs.Table.{AllBelow}
 use Rattle.pq_base.specs.Presentation.{power_side, commutator_side}
@@ -72,7 +73,8 @@ later_swap Y k j i a b (x ∷ y ∷ []) f g m q e =
       replaced = swap_from x y a b (omega arith) (omega arith) m (omega arith);
     }
 
-later_power : (Y : RowedPresentation) (k i a : ℕ) (l : List ℕ) → 0 < Y.base.prime → a ≡ k + i → a < Y.base.rank → replicate Y.base.prime i ≡ map suc l
+later_power : (Y : RowedPresentation) (k i a : ℕ) (l : List ℕ) → 0 < Y.base.prime → a ≡ k + i → a < Y.base.rank
+    → replicate Y.base.prime i ≡ map suc l
     → LaterReplacement Y k l (spelled (suc i) (power_side Y.base a)) (power_row Y a)
 later_power Y k i a l h f m e =
     let x = repeated_later Y.base.prime i l h e in
@@ -88,7 +90,8 @@ later_power Y k i a l h f m e =
           (power_from x.0 a (omega arith) m);
     }
 
-pub later_replacement : (Y : RowedPresentation) (k : ℕ) (l l' r t : List ℕ) → 0 < Y.base.prime → l' ≡ map suc l → ReplacementFrom Y k l' r t → LaterReplacement Y k l r t
+pub later_replacement : (Y : RowedPresentation) (k : ℕ) (l l' r t : List ℕ) → 0 < Y.base.prime → l' ≡ map suc l → ReplacementFrom Y k l' r t
+    → LaterReplacement Y k l r t
 later_replacement Y k l _ _ _ h e (swap_from j i a b f g m q) = later_swap Y k j i a b l f g m q e
 later_replacement Y k l _ _ _ h e (power_from i a f m) = later_power Y k i a l h f m e
 
@@ -145,7 +148,8 @@ zeros_fit (suc p) zero [] b q = cc
 zeros_fit (suc p) zero (x ∷ u) b q = cc
 zeros_fit (suc p) (suc e) u b q = let h : replicate p 0 ++ b ≡ replicate e 0 ++ map suc u = cc in let i = zeros_fit p e u b h in omega arith
 
-pub step-behind : (Y : RowedPresentation) (k e : ℕ) (u v t : List ℕ) → 0 < Y.base.prime → e < Y.base.prime → StepAt Y k (replicate e 0 ++ map suc u) v t → LaterStep Y k e u v t
+pub step-behind : (Y : RowedPresentation) (k e : ℕ) (u v t : List ℕ) → 0 < Y.base.prime → e < Y.base.prime
+    → StepAt Y k (replicate e 0 ++ map suc u) v t → LaterStep Y k e u v t
 step-behind Y k zero u v t h l s = step-later Y k u v t h s
 step-behind Y k (suc e) u v t h l s = elim (first_letter Y k 0 (replicate e 0 ++ map suc u) v t s) [
   | inl a ↦
@@ -175,9 +179,11 @@ nothing_in_nil Y k v t h s = by_front s.front s.start
     by_front [] e = left_nonempty Y k s.left s.right t s.back h s.replaced e
     by_front (x ∷ a) e = cc
 
-pub spelled-irreducible : (Y : RowedPresentation) (k : ℕ) (h : List ℕ) → 0 < Y.base.prime → AllBelow Y.base.prime h → IsIrreducible Y k (spelled 0 h)
+pub spelled-irreducible : (Y : RowedPresentation) (k : ℕ) (h : List ℕ) → 0 < Y.base.prime → AllBelow Y.base.prime h
+    → IsIrreducible Y k (spelled 0 h)
 spelled-irreducible Y k [] l b v t s = nothing_in_nil Y k v t l s
 spelled-irreducible Y k (e ∷ h) l b v t s =
-    let s' : StepAt Y k (replicate e 0 ++ map suc (spelled 0 h)) v t = subst (λ (w : List ℕ). StepAt Y k (replicate e 0 ++ w) v t) (spelled-suc 0 h) s in
+    let s' : StepAt Y k (replicate e 0 ++ map suc (spelled 0 h)) v t =
+    subst (λ (w : List ℕ). StepAt Y k (replicate e 0 ++ w) v t) (spelled-suc 0 h) s in
     let r = step-behind Y k e (spelled 0 h) v t l b.0 s' in
     spelled-irreducible Y (suc k) h l b.1 r.word t r.step

@@ -1,6 +1,7 @@
 -- A generator that commutes with each later one that a state has: its copies are added to its exponent, and where that
 -- passes the prime, the later letters are pushed on the right side of the power, and the rest of the copies behind them.
-use Rattle.std.proofs.Common.{◌≡◌, ◌≢◌, ℕ, zero, suc, ◌+◌, ◌-◌, ◌<◌, List, ◌∷◌, ◌++◌, get_or, length, replicate, refl, ap, sym, ◌∙◌, subst, arith, inl, inr}
+use Rattle.std.proofs.Common.{◌≡◌, ◌≢◌, ℕ, zero, suc, ◌+◌, ◌-◌, ◌<◌, List, ◌∷◌, ◌++◌, get_or, length, replicate, refl, ap, sym, ◌∙◌, subst}
+use Rattle.std.proofs.Common.{arith, inl, inr}
 use Rattle.std.proofs.Math.ListN.{get_or-eq_default}
 use Rattle.std.proofs.lemmas.List.{replicate-append-replicate}
 use Rattle.std.proofs.lemmas.Bool.{cases_lt}
@@ -10,7 +11,8 @@ use Rattle.pc_presentation.specs.Collection.{State, IsState, spelled, add_row, b
 use Rattle.pc_presentation.specs.Commuting.{IsBare}
 use Rattle.pc_presentation.proofs.rows.RowLaws.{zeros-normal, add_row-state, power_row-addable}
 use Rattle.pc_presentation.proofs.collecting.PushLaws.{push_word-append, push_word-add_row}
-use Rattle.pc_presentation.proofs.collecting.PlainRule.{plain, plain-raise, plain-carry, plain-rides, plain-state, plain-spelled, spelled-zeros, push_power-state}
+use Rattle.pc_presentation.proofs.collecting.PlainRule.{plain, plain-raise, plain-carry, plain-rides, plain-state, plain-spelled}
+use Rattle.pc_presentation.proofs.collecting.PlainRule.{spelled-zeros, push_power-state}
 use Rattle.pc_presentation.proofs.collecting.PassedStates.{past}
 use Rattle.pc_presentation.proofs.commuting.SpelledPushes.{spelled-same}
 use Rattle.pc_presentation.proofs.commuting.FollowedPushes.{bare-nothing}
@@ -70,7 +72,8 @@ module _ (Y : RowedPresentation) (rowed : IsRowed Y) (positive : 0 < Y.base.prim
 
   -- past the prime
   pub copies-wrap : (a e r : ℕ) (s : State) → a < Y.base.prime → a + e ≡ Y.base.prime + r → IsState Y n s → PassesExponents Y k s.exponents
-      → push_word (plain Y (suc n) k) (before a s) (replicate e 0) ≡ push_word (plain Y (suc n) k) (before 0 (behind_power Y n k s)) (replicate r 0)
+      → push_word (plain Y (suc n) k) (before a s) (replicate e 0)
+      ≡ push_word (plain Y (suc n) k) (before 0 (behind_power Y n k s)) (replicate r 0)
   copies-wrap a e r s l q h b =
       let d : ℕ = Y.base.prime - suc a in
       let full : suc (a + d) ≡ Y.base.prime = omega arith in
@@ -83,7 +86,8 @@ module _ (Y : RowedPresentation) (rowed : IsRowed Y) (positive : 0 < Y.base.prim
       ∙ ap (λ (t : State). push_word (plain Y (suc n) k) t (replicate r 0))
       (plain-carry Y n k (a + d) s full
       ∙ ap (before 0) (past-spelled s.exponents (push_power Y (plain Y n (suc k)) k (zeros_with n s.row)) b
-      (push_power-state Y rowed positive n (plain Y n (suc k)) k (plain-state Y rowed positive n (suc k)) (zeros_with n s.row) (zeros_with-state s h))))
+      (push_power-state Y rowed positive n (plain Y n (suc k)) k (plain-state Y rowed positive n (suc k)) (zeros_with n s.row)
+      (zeros_with-state s h))))
 
   -- a power with an empty right side
   pub copies-wrap-empty : (m a e r : ℕ) (s : State) → a < Y.base.prime → a + e ≡ Y.base.prime + r → r < Y.base.prime → IsState Y n s
@@ -95,7 +99,8 @@ module _ (Y : RowedPresentation) (rowed : IsRowed Y) (positive : 0 < Y.base.prim
       (ap (spelled 0) side ∙ spelled-zeros 0 m) in
       let whole : behind_power Y n k s ≡ add_row Y.base.prime (power_row Y k) s =
       ap (λ (t : State). push_word (plain Y n (suc k)) t (spelled 0 s.exponents)) power
-      ∙ push_word-add_row Y.base.prime (plain Y n (suc k)) (plain-rides Y n (suc k)) (power_row Y k) (zeros_with n s.row) (spelled 0 s.exponents)
+      ∙ push_word-add_row Y.base.prime (plain Y n (suc k)) (plain-rides Y n (suc k)) (power_row Y k) (zeros_with n s.row)
+      (spelled 0 s.exponents)
       ∙ ap (add_row Y.base.prime (power_row Y k)) (plain-spelled Y n (suc k) s.exponents s.row h.exponents) in
       copies-wrap a e r s l q h b
       ∙ ap (λ (t : State). push_word (plain Y (suc n) k) (before 0 t) (replicate r 0)) whole

@@ -4,15 +4,19 @@ use Rattle.std.proofs.Common.{◌≡◌, ℕ, zero, suc, ◌+◌, ◌<◌, ◌�
 use Rattle.std.proofs.lemmas.Bool.{cases_lt}
 use Rattle.pq_base.specs.Presentation.{power_side, commutator_side}
 use Rattle.pc_presentation.specs.Rowed.{RowedPresentation, IsRowed, power_row, commutator_row}
-use Rattle.pc_presentation.specs.Collection.{Configuration, State, IsState, identity, spelled, configuration_of, add_row, before, push_word, push_configuration, push_power}
+use Rattle.pc_presentation.specs.Collection.{Configuration, State, IsState, identity, spelled, configuration_of, add_row, before, push_word}
+use Rattle.pc_presentation.specs.Collection.{push_configuration, push_power}
 use Rattle.pc_presentation.specs.Commuting.{CommuteFrom}
 use Rattle.pc_presentation.proofs.rows.RowLaws.{is_before, identity-state}
-use Rattle.pc_presentation.proofs.collecting.PlainRule.{plain, plain-later, plain-later_word, plain-past_end, plain-rides, plain-state, plain-spelled, spelled-suc, map-replicate, push_power-state}
+use Rattle.pc_presentation.proofs.collecting.PlainRule.{plain, plain-later, plain-later_word, plain-past_end, plain-rides, plain-state}
+use Rattle.pc_presentation.proofs.collecting.PlainRule.{plain-spelled, spelled-suc, map-replicate, push_power-state}
 use Rattle.pc_presentation.proofs.collecting.StateProducts.{push_configuration-state}
-use Rattle.pc_presentation.proofs.collecting.PassedStates.{past, passed, full_power, past-rides, past-state, full_power-state, first-raise, first-full}
+use Rattle.pc_presentation.proofs.collecting.PassedStates.{past, passed, full_power, past-rides, past-state, full_power-state, first-raise}
+use Rattle.pc_presentation.proofs.collecting.PassedStates.{first-full}
 use Rattle.pc_presentation.proofs.commuting.SpelledPushes.{spelled-zeros_before, copies-same, spelled-same, word-through, spelled-through}
 use Rattle.pc_presentation.proofs.commuting.FollowedPushes.{CommuteAndWrap, push-followed}
-use Rattle.pc_presentation.proofs.commuting.BarePasses.{PassesExponents, place-within, zeros_with, zeros_with-state, past-bare, behind_power, copies-added, copies-wrap}
+use Rattle.pc_presentation.proofs.commuting.BarePasses.{PassesExponents, place-within, zeros_with, zeros_with-state, past-bare}
+use Rattle.pc_presentation.proofs.commuting.BarePasses.{behind_power, copies-added, copies-wrap}
 
 -- plain pushes of the letters from place z on, with n generators from place k on
 pub record PushesCommute (Y : RowedPresentation) (z n k : ℕ) : Type 0 where
@@ -39,7 +43,8 @@ module _ (Y : RowedPresentation) (rowed : IsRowed Y) (positive : 0 < Y.base.prim
     powers = inner.powers;
   }
 
-module _ (Y : RowedPresentation) (rowed : IsRowed Y) (positive : 0 < Y.base.prime) (i z : ℕ) (early : i ≤ z) (commute : CommuteFrom Y i z) where
+module _ (Y : RowedPresentation) (rowed : IsRowed Y) (positive : 0 < Y.base.prime) (i z : ℕ) (early : i ≤ z)
+    (commute : CommuteFrom Y i z) where
   module _ (n k : ℕ) (after : i ≤ k) (size : suc k + n ≡ Y.base.rank) where
     -- such letters are passed barely
     pub past-plain : (s : State) (j : ℕ) → z ≤ suc k + j → suc k + j < Y.base.rank → IsState Y n s → past Y n k s j ≡ plain Y n (suc k) s j
@@ -48,13 +53,18 @@ module _ (Y : RowedPresentation) (rowed : IsRowed Y) (positive : 0 < Y.base.prim
     module _ (inner : PushesCommute Y z n (suc k)) where
       pub power-through : (s : State) (l : ℕ) → IsState Y n s → z ≤ suc k + l
           → push_power Y (plain Y n (suc k)) k (plain Y n (suc k) s l) ≡ plain Y n (suc k) (push_power Y (plain Y n (suc k)) k s) l
-      power-through s l h a = configuration-through Y rowed positive z n (suc k) inner (record { word = spelled 0 (power_side Y.base k); row = power_row Y k }) s l h a
+      power-through s l h a =
+          configuration-through Y rowed positive z n (suc k) inner (record { word = spelled 0 (power_side Y.base k); row = power_row Y k })
+          s l h a
 
-      pub past-through : (s : State) (l j : ℕ) → IsState Y n s → z ≤ suc k + l → past Y n k (plain Y n (suc k) s l) j ≡ plain Y n (suc k) (past Y n k s j) l
+      pub past-through : (s : State) (l j : ℕ) → IsState Y n s → z ≤ suc k + l
+          → past Y n k (plain Y n (suc k) s l) j ≡ plain Y n (suc k) (past Y n k s j) l
       past-through s l j h a =
-          let c : Configuration = record { word = spelled (suc j) (commutator_side Y.base (suc (k + j)) k); row = commutator_row Y (suc (k + j)) k } in
+          let c : Configuration =
+          record { word = spelled (suc j) (commutator_side Y.base (suc (k + j)) k); row = commutator_row Y (suc (k + j)) k } in
           ap (λ (t : State). push_configuration Y (plain Y n (suc k)) t c) (inner.swaps s l j h a)
-          ∙ configuration-through Y rowed positive z n (suc k) inner c (plain Y n (suc k) s j) l (plain-state Y rowed positive n (suc k) s j h) a
+          ∙ configuration-through Y rowed positive z n (suc k) inner c (plain Y n (suc k) s j) l
+          (plain-state Y rowed positive n (suc k) s j h) a
 
       past-commuting : CommuteAndWrap Y n z (suc k) (past Y n k)
       past-commuting = record {
@@ -72,7 +82,8 @@ module _ (Y : RowedPresentation) (rowed : IsRowed Y) (positive : 0 < Y.base.prim
             (λ t v. past-plain t l a b v) h
             ∙ inner.powers s l h a b
             ∙ ap (add_row Y.base.prime (power_row Y (suc k + l)))
-            (sym (spelled-same (plain Y n (suc k)) (IsState Y n) (plain-state Y rowed positive n (suc k)) (past Y n k) (power_side Y.base (suc k + l)) (suc l) s
+            (sym (spelled-same (plain Y n (suc k)) (IsState Y n) (plain-state Y rowed positive n (suc k)) (past Y n k)
+            (power_side Y.base (suc k + l)) (suc l) s
             (λ t m j v e q.
             let w = place-within (power_side Y.base (suc k + l)) j q in
             past-plain t m (omega arith) (omega arith) v) h));
@@ -83,7 +94,8 @@ module _ (Y : RowedPresentation) (rowed : IsRowed Y) (positive : 0 < Y.base.prim
           → push_configuration Y (past Y n k) r (configuration_of (plain Y n (suc k) s l))
           ≡ plain Y n (suc k) (push_configuration Y (past Y n k) r (configuration_of s)) l
       passed-push r s l v h a b =
-          push-followed Y n z (λ l k a b c. commute l k (omega arith) c (omega arith) b) rowed positive n (suc k) (past Y n k) past-commuting size r s l v h a b
+          push-followed Y n z (λ l k a b c. commute l k (omega arith) c (omega arith) b) rowed positive n (suc k)
+          (past Y n k) past-commuting size r s l v h a b
           ∙ past-plain (push_configuration Y (past Y n k) r (configuration_of s)) l a (omega arith)
           (push_configuration-state Y rowed positive n (suc k) (past Y n k) (past-state Y rowed positive n k) r s v h)
 
@@ -137,7 +149,8 @@ module _ (Y : RowedPresentation) (rowed : IsRowed Y) (positive : 0 < Y.base.prim
           let e : 0 + a ≡ a = omega arith in
           ap (spelled 0) q ∙ spelled-zeros_before 0 a h ∙ ap (λ (j : ℕ). spelled j h) e in
           ap (push_word (plain Y n (suc k)) (push_power Y (plain Y n (suc k)) k (zeros_with n s.row))) letters
-          ∙ sym (spelled-through (plain Y n (suc k)) (IsState Y n) (plain-state Y rowed positive n (suc k)) (push_power Y (plain Y n (suc k)) k) h a (zeros_with n s.row)
+          ∙ sym (spelled-through (plain Y n (suc k)) (IsState Y n) (plain-state Y rowed positive n (suc k))
+          (push_power Y (plain Y n (suc k)) k) h a (zeros_with n s.row)
           (λ t j w l. power-through t j w (omega arith)) (zeros_with-state Y rowed positive n k s v))
           ∙ ap (λ (u : List ℕ). push_power Y (plain Y n (suc k)) k (push_word (plain Y n (suc k)) (zeros_with n s.row) u)) (sym letters)
           ∙ ap (push_power Y (plain Y n (suc k)) k) (plain-spelled Y n (suc k) s.exponents s.row v.exponents)
@@ -155,7 +168,8 @@ module _ (Y : RowedPresentation) (rowed : IsRowed Y) (positive : 0 < Y.base.prim
       first_power e s c h a =
           let ws = push_power-state Y rowed positive n (plain Y n (suc k)) k (plain-state Y rowed positive n (suc k)) s h in
           copies-wrap Y rowed positive n k e Y.base.prime e s c (omega arith) h (passes_all s h a)
-          ∙ ap (λ (t : State). push_word (plain Y (suc n) k) (before 0 t) (replicate e 0)) (power-behind s 0 s.exponents refl h (omega arith))
+          ∙ ap (λ (t : State). push_word (plain Y (suc n) k) (before 0 t) (replicate e 0))
+          (power-behind s 0 s.exponents refl h (omega arith))
           ∙ copies-added Y rowed positive n k 0 e e (push_power Y (plain Y n (suc k)) k s) (omega arith) c ws
           (passes_all (push_power Y (plain Y n (suc k)) k s) ws a)
           ∙ ap (add_row Y.base.prime (power_row Y k))
@@ -164,20 +178,24 @@ module _ (Y : RowedPresentation) (rowed : IsRowed Y) (positive : 0 < Y.base.prim
 
       all_powers : (e : ℕ) (s : State) (l : ℕ) → e < Y.base.prime → IsState Y n s → z ≤ k + l → k + l < Y.base.rank
           → push_word (plain Y (suc n) k) (before e s) (replicate Y.base.prime l)
-          ≡ add_row Y.base.prime (power_row Y (k + l)) (push_word (plain Y (suc n) k) (before e s) (spelled (suc l) (power_side Y.base (k + l))))
+          ≡ add_row Y.base.prime (power_row Y (k + l))
+          (push_word (plain Y (suc n) k) (before e s) (spelled (suc l) (power_side Y.base (k + l))))
       all_powers e s zero c h a b =
           let g : k ≡ k + 0 = omega arith in
           first_power e s c h (omega arith)
-          ∙ ap (λ (j : ℕ). add_row Y.base.prime (power_row Y j) (push_word (plain Y (suc n) k) (before e s) (spelled 1 (power_side Y.base j)))) g
+          ∙ ap (λ (j : ℕ). add_row Y.base.prime (power_row Y j)
+          (push_word (plain Y (suc n) k) (before e s) (spelled 1 (power_side Y.base j)))) g
       all_powers e s (suc l) c h a b =
           let g : suc k + l ≡ k + suc l = omega arith in
           ap (push_word (plain Y (suc n) k) (before e s)) (sym (map-replicate Y.base.prime l))
           ∙ plain-later_word Y n k e s (replicate Y.base.prime l)
           ∙ ap (before e) (inner.powers s l h (omega arith) (omega arith))
-          ∙ ap (add_row Y.base.prime (power_row Y (suc k + l))) (sym (plain-later_word Y n k e s (spelled (suc l) (power_side Y.base (suc k + l)))))
+          ∙ ap (add_row Y.base.prime (power_row Y (suc k + l)))
+          (sym (plain-later_word Y n k e s (spelled (suc l) (power_side Y.base (suc k + l)))))
           ∙ ap (λ (u : List ℕ). add_row Y.base.prime (power_row Y (suc k + l)) (push_word (plain Y (suc n) k) (before e s) u))
           (sym (spelled-suc (suc l) (power_side Y.base (suc k + l))))
-          ∙ ap (λ (j : ℕ). add_row Y.base.prime (power_row Y j) (push_word (plain Y (suc n) k) (before e s) (spelled (suc (suc l)) (power_side Y.base j)))) g
+          ∙ ap (λ (j : ℕ). add_row Y.base.prime (power_row Y j)
+          (push_word (plain Y (suc n) k) (before e s) (spelled (suc (suc l)) (power_side Y.base j)))) g
 
   -- one generator after the other
   pub pushes-commute : (n k : ℕ) → i ≤ k → k + n ≡ Y.base.rank → PushesCommute Y z n k
@@ -197,6 +215,7 @@ module _ (Y : RowedPresentation) (rowed : IsRowed Y) (positive : 0 < Y.base.prim
         powers = λ s l h b c.
             let w = is_before Y n s h in
             subst (λ (t : State). push_word (plain Y (suc n) k) t (replicate Y.base.prime l)
-            ≡ add_row Y.base.prime (power_row Y (k + l)) (push_word (plain Y (suc n) k) t (spelled (suc l) (power_side Y.base (k + l))))) (sym w.same)
+            ≡ add_row Y.base.prime (power_row Y (k + l)) (push_word (plain Y (suc n) k) t (spelled (suc l) (power_side Y.base (k + l)))))
+            (sym w.same)
             (all_powers n k a size inner w.exponent w.rest l w.below w.state b c);
       }

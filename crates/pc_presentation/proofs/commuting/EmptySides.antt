@@ -1,6 +1,7 @@
 -- Relations with an empty word: their right sides are zeros, and without a tail they are bare. A generator that commutes with each
 -- later one that an element has finds these relations bare.
-use Rattle.std.proofs.Common.{◌≡◌, ◌≢◌, ℕ, suc, ◌+◌, ◌-◌, ◌<◌, ◌≤◌, Option, None, Some, is_some, Bool, true, false, not, IsTrue, List, [], ◌∷◌, get_or, length, replicate, refl, ap, sym, ◌∙◌, subst, arith, inl, inr}
+use Rattle.std.proofs.Common.{◌≡◌, ◌≢◌, ℕ, suc, ◌+◌, ◌-◌, ◌<◌, ◌≤◌, Option, None, Some, is_some, Bool, true, false, not, IsTrue, List, []}
+use Rattle.std.proofs.Common.{◌∷◌, get_or, length, replicate, refl, ap, sym, ◌∙◌, subst, arith, inl, inr}
 use Rattle.std.proofs.lemmas.Bool.Decides.{eqb_tells}
 use Rattle.pc_presentation.specs.declared.syllable.Syllable.{Syllable}
 use Rattle.pc_presentation.specs.declared.relation.Relation.{Relation}
@@ -44,7 +45,8 @@ module _ (T : TailedPresentation) (is : IsTailedPresentation T) where
   bare-empty r w t b h q none u is_none true_b = record { side = side-empty r w h q none; tail = sym u ∙ no_tail t b is_none true_b }
 
   -- the generators with numbers j + 1 > g
-  bare-numbered : (g j : ℕ) → 1 ≤ g → g ≤ j → j < T.presentation.rank → IsBareRelation T (Commutator (j + 1) g) → IsBare (rowed_presentation T) j (g - 1)
+  bare-numbered : (g j : ℕ) → 1 ≤ g → g ≤ j → j < T.presentation.rank → IsBareRelation T (Commutator (j + 1) g)
+      → IsBare (rowed_presentation T) j (g - 1)
   bare-numbered g j one later within b =
       let number : g ≡ suc (g - 1) = omega arith in
       let place : j + 1 ≡ suc j = omega arith in
@@ -79,5 +81,6 @@ pub empty-bare : (T : TailedPresentation) (r : Relation) (w : List Syllable) →
     → IsBareRelation T r → w ≡ []
 empty-bare T r w q b = q ∙ ap (syllables_of (side_start r)) b.side ∙ syllables_of-zeros (side_start r) (T.presentation.rank - side_start r)
 
-pub is_none-bare : (T : TailedPresentation) (r : Relation) (t : Option ℕ) (b : Bool) → t ≡ tail_of T r → is_some t ≡ not b → IsBareRelation T r → IsTrue b
+pub is_none-bare : (T : TailedPresentation) (r : Relation) (t : Option ℕ) (b : Bool) → t ≡ tail_of T r → is_some t ≡ not b
+    → IsBareRelation T r → IsTrue b
 is_none-bare T r t b q is_none bare = is_none-None t b is_none (q ∙ bare.tail)

@@ -1,7 +1,9 @@
 -- Exponents copied at their places, one by one: what is copied, and that the parts of both lists between these places are equal.
-use Rattle.std.proofs.Common.{◌≡◌, ◌≢◌, ℕ, ◌+◌, ◌-◌, ◌<◌, ◌≤◌, List, get_or, length, replicate, take, drop, sym, ◌∙◌, subst, arith, inl, inr}
+use Rattle.std.proofs.Common.{◌≡◌, ◌≢◌, ℕ, ◌+◌, ◌-◌, ◌<◌, ◌≤◌, List, get_or, length, replicate, take, drop, sym, ◌∙◌, subst, arith, inl}
+use Rattle.std.proofs.Common.{inr}
 use Rattle.std.proofs.Math.ListN.{set}
-use Rattle.std.proofs.lemmas.List.{get_or-drop, get_or-take, get_or-set_same, get_or-set_other, length-set, length-drop, length-replicate, length-take-le}
+use Rattle.std.proofs.lemmas.List.{get_or-drop, get_or-take, get_or-set_same, get_or-set_other, length-set, length-drop, length-replicate}
+use Rattle.std.proofs.lemmas.List.{length-take-le}
 use Rattle.std.proofs.lemmas.Grind.{same_number_lists}
 use Rattle.std.proofs.lemmas.Bool.Decides.{eqb_tells}
 use Rattle.pq_base.specs.Limits.{max_rank}
@@ -16,7 +18,8 @@ between-none a e = record {
   behind = λ k h. get_or-zeros max_rank k;
 }
 
-pub between-more : (a k x : ℕ) (e part : List ℕ) → a ≤ k → k < max_rank → AreBetween a k e part → x ≡ get_or e k 0 → AreBetween a (k + 1) e (set part k x)
+pub between-more : (a k x : ℕ) (e part : List ℕ) → a ≤ k → k < max_rank → AreBetween a k e part → x ≡ get_or e k 0
+    → AreBetween a (k + 1) e (set part k x)
 between-more a k x e part first limit h q =
     let count = h.count in
     record {
@@ -31,7 +34,8 @@ between-more a k x e part first limit h q =
       behind = λ j l. get_or-set_other part k j x 0 (omega arith) ∙ h.behind j (omega arith);
     }
 
-pub between-parts : (a z : ℕ) (e part : List ℕ) → z ≤ max_rank → z ≤ length e → AreBetween a z e part → drop a (take z part) ≡ drop a (take z e)
+pub between-parts : (a z : ℕ) (e part : List ℕ) → z ≤ max_rank → z ≤ length e → AreBetween a z e part
+    → drop a (take z part) ≡ drop a (take z e)
 between-parts a z e part limit within h =
     let count = h.count in
     let first : length (take z part) ≡ z = length-take-le z part (omega arith) in

@@ -19,7 +19,8 @@ pub bare-nothing : (Y : RowedPresentation) (f : State → ℕ → State) (m a l 
     → push_configuration Y f s (record { word = spelled a (commutator_side Y.base l k); row = commutator_row Y l k }) ≡ s
 bare-nothing Y f m a l k s b h =
     ap (λ (w : List ℕ). push_configuration Y f s (record { word = spelled a w; row = commutator_row Y l k })) b.side
-    ∙ ap (λ (u : List ℕ). push_configuration Y f s (record { word = u; row = commutator_row Y l k })) (spelled-zeros a (Y.base.rank - suc l))
+    ∙ ap (λ (u : List ℕ). push_configuration Y f s (record { word = u; row = commutator_row Y l k }))
+    (spelled-zeros a (Y.base.rank - suc l))
     ∙ ap (λ (x : List ℕ). add_row Y.base.prime x s) b.row
     ∙ ap (λ (x : List ℕ). record { exponents = s.exponents; row = x }) (row_sum-zeros Y.base.prime Y.width s.row h.row)
 
@@ -29,7 +30,8 @@ pub record CommuteAndWrap (Y : RowedPresentation) (m z k : ℕ) (f : State → �
   pub rides : Rides Y.base.prime f
   pub swaps : (s : State) (j i : ℕ) → IsState Y m s → z ≤ k + i → i < j → k + j < Y.base.rank → f (f s j) i ≡ f (f s i) j
   pub powers : (s : State) (i : ℕ) → IsState Y m s → z ≤ k + i → k + i < Y.base.rank
-      → push_word f s (replicate Y.base.prime i) ≡ add_row Y.base.prime (power_row Y (k + i)) (push_word f s (spelled (suc i) (power_side Y.base (k + i))))
+      → push_word f s (replicate Y.base.prime i)
+      ≡ add_row Y.base.prime (power_row Y (k + i)) (push_word f s (spelled (suc i) (power_side Y.base (k + i))))
 
 module _ (Y : RowedPresentation) (m z : ℕ) (commute : (l k : ℕ) → z ≤ k → k < l → l < Y.base.rank → IsBare Y l k) where
   commuting-shifted : (k : ℕ) (f : State → ℕ → State) → CommuteAndWrap Y m z k f → CommuteAndWrap Y m z (suc k) (shifted f)
@@ -43,21 +45,25 @@ module _ (Y : RowedPresentation) (m z : ℕ) (commute : (l k : ℕ) → z ≤ k 
         ∙ c.powers s (suc i) h (omega arith) (omega arith)
         ∙ ap (λ (j : ℕ). add_row Y.base.prime (power_row Y j) (push_word f s (spelled (suc (suc i)) (power_side Y.base j)))) e
         ∙ ap (add_row Y.base.prime (power_row Y (suc k + i)))
-        (ap (push_word f s) (spelled-suc (suc i) (power_side Y.base (suc k + i))) ∙ push_word-shifted f s (spelled (suc i) (power_side Y.base (suc k + i))));
+        (ap (push_word f s) (spelled-suc (suc i) (power_side Y.base (suc k + i)))
+        ∙ push_word-shifted f s (spelled (suc i) (power_side Y.base (suc k + i))));
   }
 
   -- where all letters are such, the sides of each replacement act equally
-  commuting-acts : (k : ℕ) (f : State → ℕ → State) → z ≤ k → CommuteAndWrap Y m z k f → Acts Y.base.prime f (IsState Y m) (ReplacementFrom Y k)
+  commuting-acts : (k : ℕ) (f : State → ℕ → State) → z ≤ k → CommuteAndWrap Y m z k f
+      → Acts Y.base.prime f (IsState Y m) (ReplacementFrom Y k)
   commuting-acts k f l c s v _ _ _ (swap_from j i a b f' g h q) =
       c.swaps s j i v (omega arith) q (omega arith)
       ∙ sym (bare-nothing Y f m (suc j) a b (f (f s i) j) (commute a b (omega arith) (omega arith) h) (c.keeps (f s i) j (c.keeps s i v)))
   commuting-acts k f l c s v _ _ _ (power_from i a g h) =
-      subst (λ (b : ℕ). push_word f s (replicate Y.base.prime i) ≡ add_row Y.base.prime (power_row Y b) (push_word f s (spelled (suc i) (power_side Y.base b))))
+      subst (λ (b : ℕ). push_word f s (replicate Y.base.prime i)
+      ≡ add_row Y.base.prime (power_row Y b) (push_word f s (spelled (suc i) (power_side Y.base b))))
       (sym g) (c.powers s i v (omega arith) (omega arith))
 
   -- the first exponent of a state is pushed first
   configuration-before : (f : State → ℕ → State) (e : ℕ) (s t : State)
-      → push_configuration Y f s (configuration_of (before e t)) ≡ push_configuration Y (shifted f) (push_word f s (replicate e 0)) (configuration_of t)
+      → push_configuration Y f s (configuration_of (before e t))
+      ≡ push_configuration Y (shifted f) (push_word f s (replicate e 0)) (configuration_of t)
   configuration-before f e s t =
       ap (add_row Y.base.prime t.row)
       (push_word-append f s (replicate e 0) (spelled 1 t.exponents)
@@ -65,7 +71,8 @@ module _ (Y : RowedPresentation) (m z : ℕ) (commute : (l k : ℕ) → z ≤ k 
       ∙ push_word-shifted f (push_word f s (replicate e 0)) (spelled 0 t.exponents))
 
   module _ (rowed : IsRowed Y) (positive : 0 < Y.base.prime) where
-    pub push-followed : (n k : ℕ) (f : State → ℕ → State) → CommuteAndWrap Y m z k f → k + n ≡ Y.base.rank → (s t : State) (l : ℕ) → IsState Y m s
+    pub push-followed : (n k : ℕ) (f : State → ℕ → State) → CommuteAndWrap Y m z k f → k + n ≡ Y.base.rank → (s t : State) (l : ℕ)
+        → IsState Y m s
         → IsState Y n t → z ≤ k + l → l < n
         → push_configuration Y f s (configuration_of (plain Y n k t l)) ≡ f (push_configuration Y f s (configuration_of t)) l
     push-followed n k f c size s t zero v h a b =

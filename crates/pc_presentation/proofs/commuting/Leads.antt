@@ -31,7 +31,8 @@ module _ (f g : State → ℕ → State) (l : List ℕ) (c : ℕ)
   copies-lead (suc e) j' j s h =
       ap (λ (t : State). push_word f t (replicate e j')) (leads s j' j h) ∙ copies-lead e j' j (g s j) h
 
-  pub spelled-lead : (h : List ℕ) (a' a : ℕ) (s : State) → a' ≡ c + a → push_word f (lead l s) (spelled a' h) ≡ lead l (push_word g s (spelled a h))
+  pub spelled-lead : (h : List ℕ) (a' a : ℕ) (s : State) → a' ≡ c + a
+      → push_word f (lead l s) (spelled a' h) ≡ lead l (push_word g s (spelled a h))
   spelled-lead [] a' a s q = refl
   spelled-lead (e ∷ h) a' a s q =
       push_word-append f (lead l s) (replicate e a') (spelled (suc a') h)

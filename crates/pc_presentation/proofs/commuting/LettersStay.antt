@@ -1,6 +1,7 @@
 -- Where the first generator is pushed, the letters that commute with all that comes stay in place: the letters before them
 -- are passed on the state of these.
-use Rattle.std.proofs.Common.{◌≡◌, ℕ, zero, suc, ◌+◌, ◌<◌, ◌≤◌, Bool, true, false, List, [], ◌∷◌, ◌++◌, get_or, length, drop, replicate, refl, ap, sym, ◌∙◌, arith, inl, inr}
+use Rattle.std.proofs.Common.{◌≡◌, ℕ, zero, suc, ◌+◌, ◌<◌, ◌≤◌, Bool, true, false, List, [], ◌∷◌, ◌++◌, get_or, length, drop, replicate}
+use Rattle.std.proofs.Common.{refl, ap, sym, ◌∙◌, arith, inl, inr}
 use Rattle.std.proofs.lemmas.List.{length-append}
 use Rattle.std.proofs.lemmas.Bool.{cases_lt}
 use Rattle.pq_base.specs.Table.{AllBelow}
@@ -11,9 +12,11 @@ use Rattle.pc_presentation.specs.Commuting.{CommuteFrom}
 use Rattle.pc_presentation.proofs.collecting.PushLaws.{push_word-append, push_word-keeps}
 use Rattle.pc_presentation.proofs.collecting.PlainRule.{plain, plain-state, plain-spelled, push_power-state}
 use Rattle.pc_presentation.proofs.collecting.PassedStates.{past, past-state}
-use Rattle.pc_presentation.proofs.commuting.SpelledPushes.{spelled-append, spelled-zeros_before, spelled-same, word-through, spelled-through}
+use Rattle.pc_presentation.proofs.commuting.SpelledPushes.{spelled-append, spelled-zeros_before, spelled-same, word-through}
+use Rattle.pc_presentation.proofs.commuting.SpelledPushes.{spelled-through}
 use Rattle.pc_presentation.proofs.commuting.BarePasses.{PassesExponents, place-within, zeros_with, zeros_with-state, copies-wrap}
-use Rattle.pc_presentation.proofs.commuting.CommutingPushes.{PushesCommute, pushes-commute, past-plain, power-through, past-through, power-behind}
+use Rattle.pc_presentation.proofs.commuting.CommutingPushes.{PushesCommute, pushes-commute, past-plain, power-through, past-through}
+use Rattle.pc_presentation.proofs.commuting.CommutingPushes.{power-behind}
 
 -- zeros in the place of the first exponents
 zeros-below : (p : ℕ) (g h : List ℕ) → 0 < p → AllBelow p (g ++ h) → AllBelow p (replicate (length g) 0 ++ h)
@@ -43,7 +46,8 @@ module _ (Y : RowedPresentation) (rowed : IsRowed Y) (positive : 0 < Y.base.prim
   module _ (g h : List ℕ) (from : z ≡ suc k + length g) (count : length (g ++ h) ≡ n) where
     -- the later letters go to the front of the earlier ones
     later-first : (s : State) → IsState Y n s
-        → push_word (past Y n k) s (spelled 0 (g ++ h)) ≡ push_word (past Y n k) (push_word (plain Y n (suc k)) s (spelled (length g) h)) (spelled 0 g)
+        → push_word (past Y n k) s (spelled 0 (g ++ h))
+        ≡ push_word (past Y n k) (push_word (plain Y n (suc k)) s (spelled (length g) h)) (spelled 0 g)
     later-first s v =
         let keeps = plain-state Y rowed positive n (suc k) in
         let passes = past-state Y rowed positive n k in
@@ -56,7 +60,8 @@ module _ (Y : RowedPresentation) (rowed : IsRowed Y) (positive : 0 < Y.base.prim
         let b = place-within h j q in
         past-plain Y rowed positive i z early commute n k after size t l (omega arith) (omega arith) w)
         (push_word-keeps (past Y n k) (IsState Y n) passes s (spelled 0 g) v)
-        ∙ sym (spelled-through (plain Y n (suc k)) (IsState Y n) keeps (λ (t : State). push_word (past Y n k) t (spelled 0 g)) h (length g) s
+        ∙ sym (spelled-through (plain Y n (suc k)) (IsState Y n) keeps (λ (t : State). push_word (past Y n k) t (spelled 0 g)) h
+        (length g) s
         (λ t j w l. sym (word-through (past Y n k) (IsState Y n) passes (λ (r : State). plain Y n (suc k) r j)
         (λ r m x. sym (past-through Y rowed positive i z early commute n k after size inner r j m x (omega arith))) t (spelled 0 g) w)) v)
 
@@ -66,7 +71,8 @@ module _ (Y : RowedPresentation) (rowed : IsRowed Y) (positive : 0 < Y.base.prim
         let start : 0 + length g ≡ length g = omega arith in
         let normal : IsNormal Y.base.prime n (replicate (length g) 0 ++ h) =
         record { count = length-zeros g h ∙ count; below = zeros-below Y.base.prime g h positive v.exponents.below } in
-        ap (push_word (plain Y n (suc k)) (zeros_with n x)) (ap (λ (a : ℕ). spelled a h) (sym start) ∙ sym (spelled-zeros_before 0 (length g) h))
+        ap (push_word (plain Y n (suc k)) (zeros_with n x))
+        (ap (λ (a : ℕ). spelled a h) (sym start) ∙ sym (spelled-zeros_before 0 (length g) h))
         ∙ plain-spelled Y n (suc k) (replicate (length g) 0 ++ h) x normal
 
     -- so the earlier letters alone are passed
@@ -76,7 +82,8 @@ module _ (Y : RowedPresentation) (rowed : IsRowed Y) (positive : 0 < Y.base.prim
         let zs : IsState Y n (zeros_with n x) = zeros_with-state Y rowed positive n k (record { exponents = g ++ h; row = x }) v in
         let keeps = plain-state Y rowed positive n (suc k) in
         ap (before 0)
-        (later-first (push_power Y (plain Y n (suc k)) k (zeros_with n x)) (push_power-state Y rowed positive n (plain Y n (suc k)) k keeps (zeros_with n x) zs)
+        (later-first (push_power Y (plain Y n (suc k)) k (zeros_with n x))
+        (push_power-state Y rowed positive n (plain Y n (suc k)) k keeps (zeros_with n x) zs)
         ∙ ap (λ (t : State). push_word (past Y n k) t (spelled 0 g))
         (sym (spelled-through (plain Y n (suc k)) (IsState Y n) keeps (push_power Y (plain Y n (suc k)) k) h (length g) (zeros_with n x)
         (λ t j w l. power-through Y rowed positive i z early commute n k after size inner t j w (omega arith)) zs)

@@ -1,20 +1,25 @@
 -- The shortcuts of the plain rule on whole states: copies of a generator are added to its exponent where it commutes with
 -- the letters after it, and letters that commute with all that comes stay in place.
-use Rattle.std.proofs.Common.{◌≡◌, ℕ, suc, ◌+◌, ◌-◌, ◌<◌, List, ◌++◌, eqb, get_or, length, take, drop, replicate, refl, ap, sym, ◌∙◌, subst, arith}
+use Rattle.std.proofs.Common.{◌≡◌, ℕ, suc, ◌+◌, ◌-◌, ◌<◌, List, ◌++◌, eqb, get_or, length, take, drop, replicate, refl, ap, sym, ◌∙◌, subst}
+use Rattle.std.proofs.Common.{arith}
 use Rattle.std.proofs.lemmas.List.{get_or-drop, take-append-drop, drop-drop, length-take-le, length-drop}
 use Rattle.pq_base.specs.Presentation.{power_side}
 use Rattle.pc_presentation.specs.Rowed.{RowedPresentation, power_row}
-use Rattle.pc_presentation.specs.Collection.{Configuration, State, IsState, spelled, add_row, push_word, push_configuration, push_power, raise, plain_push}
+use Rattle.pc_presentation.specs.Collection.{Configuration, State, IsState, spelled, add_row, push_word, push_configuration, push_power}
+use Rattle.pc_presentation.specs.Collection.{raise, plain_push}
 use Rattle.pc_presentation.specs.PushSteps.{with_exponent, raised, passed}
-use Rattle.pc_presentation.specs.CommutingLaws.{PassesBarely, PowersAreAdded, PowersWrap, CommutingLettersStay, PowersWrapBeforeCommutingLetters}
+use Rattle.pc_presentation.specs.CommutingLaws.{PassesBarely, PowersAreAdded, PowersWrap, CommutingLettersStay}
+use Rattle.pc_presentation.specs.CommutingLaws.{PowersWrapBeforeCommutingLetters}
 use Rattle.pc_presentation.proofs.collecting.PlainRule.{plain}
 use Rattle.pc_presentation.proofs.commuting.BarePasses.{PassesExponents, place-within, zeros_with, copies-added, copies-wrap-empty}
 use Rattle.pc_presentation.proofs.commuting.LettersStay.{kept, raise-stays, copies-wrap-kept}
 use Rattle.pc_presentation.proofs.commuting.Leads.{lead}
-use Rattle.pc_presentation.proofs.commuting.PlainSteps.{with_exponent-lead, copies-here, power-after, raised-lead, plain_push-lead, part_after, taken-lead, place_of, exponent-below, part_after-state}
+use Rattle.pc_presentation.proofs.commuting.PlainSteps.{with_exponent-lead, copies-here, power-after, raised-lead, plain_push-lead}
+use Rattle.pc_presentation.proofs.commuting.PlainSteps.{part_after, taken-lead, place_of, exponent-below, part_after-state}
 
 -- the later exponents of a state that a generator passes barely
-passes_after : (Y : RowedPresentation) (s : State) (i : ℕ) → IsState Y Y.base.rank s → PassesBarely Y s i → PassesExponents Y i (part_after i s).exponents
+passes_after : (Y : RowedPresentation) (s : State) (i : ℕ) → IsState Y Y.base.rank s → PassesBarely Y s i
+    → PassesExponents Y i (part_after i s).exponents
 passes_after Y s i h b j n =
     let w = place-within (drop (suc i) s.exponents) j n in
     let d = length-drop (suc i) s.exponents in
@@ -32,7 +37,8 @@ powers_are_added Y s i e rowed h l passes below =
     ap (λ (t : State). push_word (plain_push Y) t (replicate e i)) p.same
     ∙ copies-here Y (take i s.exponents) i n p.place p.whole e a (part_after i s)
     ∙ ap (lead (take i s.exponents))
-    (copies-added Y rowed (omega arith) n i a e (a + e) (part_after i s) refl below (part_after-state Y s i h) (passes_after Y s i h passes))
+    (copies-added Y rowed (omega arith) n i a e (a + e) (part_after i s) refl below (part_after-state Y s i h)
+    (passes_after Y s i h passes))
     ∙ sym (with_exponent-lead Y (take i s.exponents) i n p.place p.whole a (a + e) (part_after i s))
     ∙ ap (λ (t : State). with_exponent t i (a + e)) (sym p.same)
 

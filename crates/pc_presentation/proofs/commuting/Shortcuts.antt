@@ -18,7 +18,8 @@ use Rattle.pc_presentation.proofs.quotients.ElementConditions.{prime-positive, w
 use Rattle.pc_presentation.proofs.quotients.PushesLeft.{after}
 use Rattle.pc_presentation.proofs.commuting.ShortcutLaws.{powers_are_added, powers_wrap, commuting_letters_stay}
 
-length-cleared_between : (i z : ℕ) (xs : List ℕ) → i < z → z ≤ length xs → length (take (suc i) xs ++ (replicate (z - suc i) 0 ++ drop z xs)) ≡ length xs
+length-cleared_between : (i z : ℕ) (xs : List ℕ) → i < z → z ≤ length xs
+    → length (take (suc i) xs ++ (replicate (z - suc i) 0 ++ drop z xs)) ≡ length xs
 length-cleared_between i z xs less within =
     let zeros : List ℕ = replicate (z - suc i) 0 in
     let whole : length (take (suc i) xs ++ (zeros ++ drop z xs)) ≡ length (take (suc i) xs) + length (zeros ++ drop z xs) =
@@ -65,15 +66,18 @@ module _ (T : TailedPresentation) (e : Element) (h : IsElement T e) where
       let a : suc (g - 1) ≡ g = omega arith in
       let far : suc (g - 1) + (z - suc (g - 1)) ≡ z = omega arith in
       let letters : take (z - suc (g - 1)) (drop (suc (g - 1)) e.state.exponents) ≡ drop (suc (g - 1)) (take z e.state.exponents) =
-      sym (drop-take (suc (g - 1)) (z - suc (g - 1)) e.state.exponents) ∙ ap (λ (m : ℕ). drop (suc (g - 1)) (take m e.state.exponents)) far in
+      sym (drop-take (suc (g - 1)) (z - suc (g - 1)) e.state.exponents)
+      ∙ ap (λ (m : ℕ). drop (suc (g - 1)) (take m e.state.exponents)) far in
       sym (commuting_letters_stay Y e.state (g - 1) z rowed h.state (omega arith) after_g first.within first.commute
       ∙ ap (λ (v : List ℕ). push_word (passed Y (g - 1)) (raised Y cleared (g - 1)) (spelled (suc (g - 1)) v)) letters
       ∙ ap (λ (k : ℕ). push_word (passed Y (g - 1)) (raised Y cleared (g - 1)) (spelled k (drop k xs))) a)
 
   -- copies of the generator with number g
   module _ (g n : ℕ) (one : 1 ≤ g) (last : g ≤ T.presentation.rank) where
-    pub copies-added : (x : ℕ) (e' : Element) → PassesBarely (rowed_presentation T) e.state (g - 1) → x ≡ get_or e.state.exponents (g - 1) 0 + n
-        → x < T.presentation.prime → e' ≡ with_state e (with_exponent e.state (g - 1) x) → e' ≡ after (plain_push (rowed_presentation T)) e (replicate n (g - 1))
+    pub copies-added : (x : ℕ) (e' : Element) → PassesBarely (rowed_presentation T) e.state (g - 1)
+        → x ≡ get_or e.state.exponents (g - 1) 0 + n
+        → x < T.presentation.prime → e' ≡ with_state e (with_exponent e.state (g - 1) x)
+        → e' ≡ after (plain_push (rowed_presentation T)) e (replicate n (g - 1))
     copies-added x e' passes total below q =
         let Y : RowedPresentation = rowed_presentation T in
         let rowed : IsRowed (rowed_presentation T) = rowed_presentation-is T h.presentation in
@@ -81,7 +85,8 @@ module _ (T : TailedPresentation) (e : Element) (h : IsElement T e) where
         ∙ ap (λ (y : ℕ). with_state e (with_exponent e.state (g - 1) y)) total
         ∙ ap (with_state e) (sym (powers_are_added Y e.state (g - 1) n rowed h.state (omega arith) passes (omega arith)))
 
-    module _ (rest : ℕ) (total : get_or e.state.exponents (g - 1) 0 + n ≡ T.presentation.prime + rest) (below : rest < T.presentation.prime) where
+    module _ (rest : ℕ) (total : get_or e.state.exponents (g - 1) 0 + n ≡ T.presentation.prime + rest)
+        (below : rest < T.presentation.prime) where
       pub copies-wrapped : (m e' : Element) → PassesBarely (rowed_presentation T) e.state (g - 1)
           → right_side T.presentation (Power g) ≡ replicate (T.presentation.rank - g) 0
           → m ≡ with_state e (with_exponent e.state (g - 1) rest)

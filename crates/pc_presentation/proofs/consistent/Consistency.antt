@@ -11,7 +11,8 @@ use Rattle.pc_presentation.specs.Collection.{State, IsState, identity, spelled, 
 use Rattle.pc_presentation.specs.Overlaps.{Overlap, IsOverlap, left_way, right_way, AgreesPlainly, PushChain, Agrees}
 use Rattle.pc_presentation.specs.Overlaps.Overlap.{triple, left, right, own}
 use Rattle.pc_presentation.specs.Overlaps.PushChain.{no_push, then_push}
-use Rattle.pc_presentation.specs.CollectionLaws.{PlainPushesAreRuns, RowsRideAlong, WordsReachNormalWords, AgreeingOverlapsMakeConsistent, AgreeingOverlapsMakeConsistentWithoutRows, PlainAgreementIsAgreement}
+use Rattle.pc_presentation.specs.CollectionLaws.{PlainPushesAreRuns, RowsRideAlong, WordsReachNormalWords, AgreeingOverlapsMakeConsistent}
+use Rattle.pc_presentation.specs.CollectionLaws.{AgreeingOverlapsMakeConsistentWithoutRows, PlainAgreementIsAgreement}
 use Rattle.pc_presentation.proofs.rows.RowLaws.{row_sum-zeros, identity-state}
 use Rattle.pc_presentation.proofs.collecting.PlainRule.{plain-state, plain-rides}
 use Rattle.pc_presentation.proofs.collecting.RunLaws.{replacement_from, run-weaken}
@@ -66,22 +67,28 @@ module _ (Y : RowedPresentation) (rowed : IsRowed Y) (big : 1 < Y.base.prime) wh
   all_agree_from agree _ _ _ _ (triple_from c j i a b f g m q x) =
       let o = agree (triple c j i) (q, x, (let z : c < Y.base.rank = omega arith in z)) in
       at_places (c ∷ []) (j ∷ i ∷ []) j i a b (omega arith) (omega arith)
-      (agreement (c ∷ []) (j ∷ i ∷ []) (i ∷ j ∷ spelled (suc j) (commutator_side Y.base j i)) (commutator_row Y j i) _ _ o.left_end o.right_end refl refl o.left_chain o.right_chain o.same)
+      (agreement (c ∷ []) (j ∷ i ∷ []) (i ∷ j ∷ spelled (suc j) (commutator_side Y.base j i))
+      (commutator_row Y j i) _ _ o.left_end o.right_end refl refl o.left_chain o.right_chain o.same)
   all_agree_from agree _ _ _ _ (left_from j i a b f g m q) =
       let o = agree (left j i) (q, (let z : j < Y.base.rank = omega arith in z)) in
       at_places (replicate (pred Y.base.prime) j) (j ∷ i ∷ []) j i a b (omega arith) (omega arith)
-      (agreement (replicate (pred Y.base.prime) j) (j ∷ i ∷ []) (i ∷ j ∷ spelled (suc j) (commutator_side Y.base j i)) (commutator_row Y j i) _ _ o.left_end o.right_end
+      (agreement (replicate (pred Y.base.prime) j) (j ∷ i ∷ []) (i ∷ j ∷ spelled (suc j) (commutator_side Y.base j i))
+      (commutator_row Y j i) _ _ o.left_end o.right_end
       (sym (replicate-snoc Y.base.prime j i (omega arith))) refl o.left_chain o.right_chain o.same)
   all_agree_from agree _ _ _ _ (right_from j i b f m q) =
       let o = agree (right j i) (q, (let z : j < Y.base.rank = omega arith in z)) in
       let e : i ≡ b = omega arith in
-      subst (λ (y : ℕ). AgreesFrom Y Y.base.rank 0 (j ∷ []) (replicate Y.base.prime i) (spelled (suc i) (power_side Y.base y)) (power_row Y y)) e
-      (agreement (j ∷ []) (replicate Y.base.prime i) (spelled (suc i) (power_side Y.base i)) (power_row Y i) _ _ o.left_end o.right_end refl refl o.left_chain o.right_chain o.same)
+      subst (λ (y : ℕ). AgreesFrom Y Y.base.rank 0 (j ∷ []) (replicate Y.base.prime i) (spelled (suc i) (power_side Y.base y))
+      (power_row Y y)) e
+      (agreement (j ∷ []) (replicate Y.base.prime i) (spelled (suc i) (power_side Y.base i))
+      (power_row Y i) _ _ o.left_end o.right_end refl refl o.left_chain o.right_chain o.same)
   all_agree_from agree _ _ _ _ (own_from i b f m) =
       let o = agree (own i) (let z : i < Y.base.rank = omega arith in z) in
       let e : i ≡ b = omega arith in
-      subst (λ (y : ℕ). AgreesFrom Y Y.base.rank 0 (i ∷ []) (replicate Y.base.prime i) (spelled (suc i) (power_side Y.base y)) (power_row Y y)) e
-      (agreement (i ∷ []) (replicate Y.base.prime i) (spelled (suc i) (power_side Y.base i)) (power_row Y i) _ _ o.left_end o.right_end refl refl o.left_chain o.right_chain o.same)
+      subst (λ (y : ℕ). AgreesFrom Y Y.base.rank 0 (i ∷ []) (replicate Y.base.prime i) (spelled (suc i) (power_side Y.base y))
+      (power_row Y y)) e
+      (agreement (i ∷ []) (replicate Y.base.prime i) (spelled (suc i) (power_side Y.base i))
+      (power_row Y i) _ _ o.left_end o.right_end refl refl o.left_chain o.right_chain o.same)
 
   pub agreeing_relations_act : ((o : Overlap) → IsOverlap Y.base.rank o → Agrees Y o) → RelationsAct Y Y.base.rank 0
   agreeing_relations_act agree = overlaps-act Y rowed big Y.base.rank 0 (omega arith) (all_agree_from agree)
@@ -100,15 +107,18 @@ module _ (Y : RowedPresentation) (rowed : IsRowed Y) (big : 1 < Y.base.prime) wh
       then_push (record { run = plain_push-run Y rowed (omega arith) s i h b.0; state = v }) (plain_chain (plain_push Y s i) w v b.1)
 
   pub left_way-below : (o : Overlap) → IsOverlap Y.base.rank o → AllBelow Y.base.rank (left_way Y o).word
-  left_way-below (triple k j i) h = let a = h.0 in let b = h.1 in let c = h.2 in (c, ((let z : j < Y.base.rank = omega arith in z), ((let z : i < Y.base.rank = omega arith in z), tt)))
+  left_way-below (triple k j i) h = let a = h.0 in
+      let b = h.1 in let c = h.2 in (c, ((let z : j < Y.base.rank = omega arith in z), ((let z : i < Y.base.rank = omega arith in z), tt)))
   left_way-below (left j i) h =
       let a = h.0 in let b = h.1 in
-      AllBelow-append Y.base.rank (replicate Y.base.prime j) (i ∷ []) (AllBelow-replicate Y.base.rank Y.base.prime j b) ((let z : i < Y.base.rank = omega arith in z), tt)
+      AllBelow-append Y.base.rank (replicate Y.base.prime j) (i ∷ []) (AllBelow-replicate Y.base.rank Y.base.prime j b)
+      ((let z : i < Y.base.rank = omega arith in z), tt)
   left_way-below (right j i) h = let a = h.0 in let b = h.1 in (b, AllBelow-replicate Y.base.rank Y.base.prime i (omega arith))
   left_way-below (own i) h = (h, AllBelow-replicate Y.base.rank Y.base.prime i h)
 
   commutator-below : (j i : ℕ) → j < Y.base.rank → i < j → AllBelow Y.base.rank (spelled (suc j) (commutator_side Y.base j i))
-  commutator-below j i l m = let c = (rowed.base.commutator_sides j i l m).count in AllBelow-spelled Y.base.rank (suc j) (commutator_side Y.base j i) (omega arith)
+  commutator-below j i l m = let c = (rowed.base.commutator_sides j i l m).count in
+      AllBelow-spelled Y.base.rank (suc j) (commutator_side Y.base j i) (omega arith)
 
   power-below : (i : ℕ) → i < Y.base.rank → AllBelow Y.base.rank (spelled (suc i) (power_side Y.base i))
   power-below i l = let c = (rowed.base.power_sides i l).count in AllBelow-spelled Y.base.rank (suc i) (power_side Y.base i) (omega arith)
@@ -152,7 +162,8 @@ agreeing_overlaps_make_consistent Y rowed agree = agreeing_overlaps_consistent Y
 
 pub agreeing_overlaps_make_consistent_without_rows : AgreeingOverlapsMakeConsistentWithoutRows
 agreeing_overlaps_make_consistent_without_rows P h agree =
-    subst (λ (Q : Presentation). IsConsistent Q) (flat-without_rows P) (agreeing_overlaps_consistent (without_rows P) (without_rows-rowed P h) h.prime agree)
+    subst (λ (Q : Presentation). IsConsistent Q) (flat-without_rows P)
+    (agreeing_overlaps_consistent (without_rows P) (without_rows-rowed P h) h.prime agree)
 
 pub plain_agreement_is_agreement : PlainAgreementIsAgreement
 plain_agreement_is_agreement Y rowed o h e = plain_agreement Y rowed rowed.base.prime o h e

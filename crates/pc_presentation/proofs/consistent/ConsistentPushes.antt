@@ -19,7 +19,8 @@ use Rattle.pc_presentation.proofs.rows.TailLaws.{run-joined_flat}
 use Rattle.pc_presentation.proofs.rows.RowMaps.{dropped_rows, run-mapped}
 
 -- the word of a state is the normal word of its exponents and its row
-pub state-normal_word : (n : ℕ) (s : State) → length s.exponents ≡ n → signed_word n (configuration_of s) ≡ normal_word (s.exponents ++ s.row)
+pub state-normal_word : (n : ℕ) (s : State) → length s.exponents ≡ n
+    → signed_word n (configuration_of s) ≡ normal_word (s.exponents ++ s.row)
 state-normal_word n s c =
     ap (λ (w : List ℤ). w ++ word_from n s.row) (letters-spelled 0 s.exponents)
     ∙ ap (λ (m : ℕ). word_from 0 s.exponents ++ word_from m s.row) (let e : n ≡ 0 + length s.exponents = omega arith in e)
@@ -45,7 +46,10 @@ module _ (Y : RowedPresentation) (rowed : IsRowed Y) (positive : 0 < Y.base.prim
   state-normal s h =
       let c = h.exponents.count in
       let d = h.row.count in
-      record { count = simp length-append (omega arith); below = AllBelow-append Y.base.prime s.exponents s.row h.exponents.below h.row.below }
+      record {
+        count = simp length-append (omega arith);
+        below = AllBelow-append Y.base.prime s.exponents s.row h.exponents.below h.row.below;
+      }
 
   -- states whose words are joined
   pub states-unique : IsConsistent (flat Y) → (s t : State) → IsState Y Y.base.rank s → IsState Y Y.base.rank t
@@ -56,7 +60,8 @@ module _ (Y : RowedPresentation) (rowed : IsRowed Y) (positive : 0 < Y.base.prim
       (joined-trans c (joined-from_equal (flat Y) (state-normal_word Y.base.rank t v.exponents.count))) in
       let same = consistent.unique (s.exponents ++ s.row) (t.exponents ++ t.row) (state-normal s h) (state-normal t v) words in
       let parts = equal_parts s.exponents s.row t.exponents t.row (h.exponents.count ∙ sym v.exponents.count) same in
-      ap (λ (e : List ℕ). record { exponents = e; row = s.row }) parts.front ∙ ap (λ (x : List ℕ). record { exponents = t.exponents; row = x }) parts.back
+      ap (λ (e : List ℕ). record { exponents = e; row = s.row }) parts.front
+      ∙ ap (λ (x : List ℕ). record { exponents = t.exponents; row = x }) parts.back
 
   -- the ends of two runs from one configuration
   ends-joined : (s t u : State) (i : ℕ) → IsState Y Y.base.rank s → i < Y.base.rank → IsPushed Y s i t → IsPushed Y s i u
@@ -67,14 +72,17 @@ module _ (Y : RowedPresentation) (rowed : IsRowed Y) (positive : 0 < Y.base.prim
       AllBelow-append Y.base.rank (spelled 0 s.exponents) (i ∷ []) (AllBelow-spelled Y.base.rank 0 s.exponents (omega arith)) (l, tt) in
       joined-trans (joined-sym (run-joined_flat Y rowed positive a.run below h.row)) (run-joined_flat Y rowed positive b.run below h.row)
 
-  pub pushes-unique : IsConsistent (flat Y) → (s t u : State) (i : ℕ) → IsState Y Y.base.rank s → i < Y.base.rank → IsPushed Y s i t → IsPushed Y s i u → t ≡ u
+  pub pushes-unique : IsConsistent (flat Y) → (s t u : State) (i : ℕ) → IsState Y Y.base.rank s → i < Y.base.rank → IsPushed Y s i t
+      → IsPushed Y s i u → t ≡ u
   pushes-unique consistent s t u i h l a b = states-unique consistent t u a.state b.state (ends-joined s t u i h l a b)
 
 pub consistent_pushes_are_unique : ConsistentPushesAreUnique
-consistent_pushes_are_unique Y rowed consistent s t u i h l a b = pushes-unique Y rowed (positive_prime Y.base rowed.base) consistent s t u i h l a b
+consistent_pushes_are_unique Y rowed consistent s t u i h l a b =
+    pushes-unique Y rowed (positive_prime Y.base rowed.base) consistent s t u i h l a b
 
 -- rows dropped
-bare-state : (Y : RowedPresentation) (s : State) → IsState Y Y.base.rank s → IsState (without_rows Y.base) Y.base.rank (record { exponents = s.exponents; row = [] })
+bare-state : (Y : RowedPresentation) (s : State) → IsState Y Y.base.rank s
+    → IsState (without_rows Y.base) Y.base.rank (record { exponents = s.exponents; row = [] })
 bare-state Y s h = record { exponents = h.exponents; row = record { count = refl; below = tt } }
 
 bare-pushed : (Y : RowedPresentation) (s t : State) (i : ℕ) → IsPushed Y s i t
@@ -87,15 +95,19 @@ bare-pushed Y s t i a = record {
 pub pushes_over_consistent_base : PushesOverConsistentBase
 pushes_over_consistent_base Y rowed consistent s t u i h l a b =
     let positive = positive_prime Y.base rowed.base in
-    let flat_base : IsConsistent (flat (without_rows Y.base)) = subst (λ (Q : Presentation). IsConsistent Q) (sym (flat-without_rows Y.base)) consistent in
+    let flat_base : IsConsistent (flat (without_rows Y.base)) =
+    subst (λ (Q : Presentation). IsConsistent Q) (sym (flat-without_rows Y.base)) consistent in
     let bare : record { exponents = t.exponents; row = [] } ≡ record { exponents = u.exponents; row = [] } =
-    pushes-unique (without_rows Y.base) (without_rows-rowed Y.base rowed.base) positive flat_base (record { exponents = s.exponents; row = [] })
-    (record { exponents = t.exponents; row = [] }) (record { exponents = u.exponents; row = [] }) i (bare-state Y s h) l (bare-pushed Y s t i a) (bare-pushed Y s u i b) in
+    pushes-unique (without_rows Y.base) (without_rows-rowed Y.base rowed.base) positive flat_base
+    (record { exponents = s.exponents; row = [] })
+    (record { exponents = t.exponents; row = [] }) (record { exponents = u.exponents; row = [] }) i (bare-state Y s h) l
+    (bare-pushed Y s t i a) (bare-pushed Y s u i b) in
     let same : t.exponents ≡ u.exponents = ap (λ (z : State). z.exponents) bare in
     record {
       exponents = same;
       rows =
           joined-cancel_left (letters (spelled 0 u.exponents)) (word_from Y.base.rank t.row) (word_from Y.base.rank u.row)
-          (subst (λ (e : List ℕ). Joined (flat Y) (letters (spelled 0 e) ++ word_from Y.base.rank t.row) (letters (spelled 0 u.exponents) ++ word_from Y.base.rank u.row)) same
+          (subst (λ (e : List ℕ). Joined (flat Y) (letters (spelled 0 e) ++ word_from Y.base.rank t.row)
+          (letters (spelled 0 u.exponents) ++ word_from Y.base.rank u.row)) same
           (ends-joined Y rowed positive s t u i h l a b));
     }

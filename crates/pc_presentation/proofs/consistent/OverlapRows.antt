@@ -38,7 +38,8 @@ module _ (Y : RowedPresentation) (rowed : IsRowed Y) (big : 1 < Y.base.prime) wh
       row_sum-add_rows Y.base.prime (difference Y.base.prime x y) y (drow.count ∙ sym m.count)
       ∙ difference-add_rows Y.base.prime Y.width big x y row row' in
       let added : Joined (flat Y) (word_from Y.base.rank d ++ word_from Y.base.rank y) (word_from Y.base.rank x) =
-      subst (λ (z : List ℕ). Joined (flat Y) (word_from Y.base.rank (difference Y.base.prime x y) ++ word_from Y.base.rank y) (word_from Y.base.rank z)) whole
+      subst (λ (z : List ℕ). Joined (flat Y) (word_from Y.base.rank (difference Y.base.prime x y) ++ word_from Y.base.rank y)
+      (word_from Y.base.rank z)) whole
       (row_words-add Y rowed (difference Y.base.prime x y) y drow.count m.count) in
       joined-cancel_right (word_from Y.base.rank y) (word_from Y.base.rank d) [] (joined-trans added same)
 
@@ -63,8 +64,10 @@ module _ (Y : RowedPresentation) (rowed : IsRowed Y) (big : 1 < Y.base.prime) wh
     rows-joined : ExponentsAgree Y push o
         → Joined (flat Y) (word_from Y.base.rank (left_end Y push o).row) (word_from Y.base.rank (right_end Y push o).row)
     rows-joined same =
-        joined-cancel_left (letters (spelled 0 (right_end Y push o).exponents)) (word_from Y.base.rank (left_end Y push o).row) (word_from Y.base.rank (right_end Y push o).row)
-        (subst (λ (e : List ℕ). Joined (flat Y) (letters (spelled 0 e) ++ word_from Y.base.rank (left_end Y push o).row) (word_of Y (right_end Y push o))) same
+        joined-cancel_left (letters (spelled 0 (right_end Y push o).exponents)) (word_from Y.base.rank (left_end Y push o).row)
+        (word_from Y.base.rank (right_end Y push o).row)
+        (subst (λ (e : List ℕ). Joined (flat Y) (letters (spelled 0 e) ++ word_from Y.base.rank (left_end Y push o).row)
+        (word_of Y (right_end Y push o))) same
         (ways-joined Y rowed big push meaning o h))
 
     pub overlap_row-trivial : ExponentsAgree Y push o → Joined (flat Y) (word_from Y.base.rank (overlap_row Y push o)) []

@@ -1,6 +1,7 @@
 -- The two ways of an overlap as sparse words pushed on the element one: the letters of the left way, and those of the right
 -- way up to the right side of a relation, which follows with its tail.
-use Rattle.std.proofs.Common.{◌≡◌, ℕ, suc, pred, ◌-◌, ◌<◌, ◌≤◌, None, List, [], ◌∷◌, ◌++◌, length, replicate, ap, sym, ◌∙◌, subst, arith, append_assoc, append-nil}
+use Rattle.std.proofs.Common.{◌≡◌, ℕ, suc, pred, ◌-◌, ◌<◌, ◌≤◌, None, List, [], ◌∷◌, ◌++◌, length, replicate, ap, sym, ◌∙◌, subst, arith}
+use Rattle.std.proofs.Common.{append_assoc, append-nil}
 use Rattle.pq_base.specs.Table.{AllBelow}
 use Rattle.pq_base.specs.Presentation.{commutator_side}
 use Rattle.fp_rows.proofs.BelowLaws.{AllBelow-append}
@@ -29,7 +30,8 @@ places_of-below n (s ∷ w) h =
     let first = All-head (λ (s : Syllable). (1 ≤ s.generator) × (s.generator ≤ n)) s w h in
     let a = first.0 in
     let b = first.1 in
-    AllBelow-append n (replicate s.exponent (s.generator - 1)) (places_of w) (AllBelow-replicate n s.exponent (s.generator - 1) (omega arith))
+    AllBelow-append n (replicate s.exponent (s.generator - 1)) (places_of w)
+    (AllBelow-replicate n s.exponent (s.generator - 1) (omega arith))
     (places_of-below n w (All-tail (λ (s : Syllable). (1 ≤ s.generator) × (s.generator ≤ n)) s w h))
 
 -- the element one in place of another
@@ -53,7 +55,8 @@ cleared_is_element T e e' h q =
     })
 
 -- a word without a tail
-pub push_configuration-no_tail : (T : TailedPresentation) (push : State → ℕ → State) → IsTailedPresentation T → IsMeaning (rowed_presentation T) push
+pub push_configuration-no_tail : (T : TailedPresentation) (push : State → ℕ → State) → IsTailedPresentation T
+    → IsMeaning (rowed_presentation T) push
     → (s : State) → IsState (rowed_presentation T) T.presentation.rank s → (w : List Syllable) → AreGenerators T.presentation.rank w
     → push_configuration (rowed_presentation T) push s (sparse_configuration T.tails w None) ≡ push_word push s (places_of w)
 push_configuration-no_tail T push is meaning s h w g =
@@ -62,15 +65,19 @@ push_configuration-no_tail T push is meaning s h w g =
     let v : IsState (rowed_presentation T) T.presentation.rank (push_word push s (places_of w)) =
     pushed-state (rowed_presentation T) (rowed_presentation-is T is) (omega arith) push meaning (places_of w) s h
     (places_of-below T.presentation.rank w g) in
-    ap (λ (x : List ℕ). let u : State = record { exponents = t.exponents; row = x } in u) (row_sum-zeros T.presentation.prime T.tails t.row v.row)
+    ap (λ (x : List ℕ). let u : State = record { exponents = t.exponents; row = x } in u)
+    (row_sum-zeros T.presentation.prime T.tails t.row v.row)
 
 -- a power of a generator alone
-pub push_configuration-power : (T : TailedPresentation) (push : State → ℕ → State) → IsTailedPresentation T → IsMeaning (rowed_presentation T) push
+pub push_configuration-power : (T : TailedPresentation) (push : State → ℕ → State) → IsTailedPresentation T
+    → IsMeaning (rowed_presentation T) push
     → (s : State) → IsState (rowed_presentation T) T.presentation.rank s → (g e : ℕ) → 1 ≤ g → g ≤ T.presentation.rank
-    → push_configuration (rowed_presentation T) push s (sparse_configuration T.tails (syllable g e ∷ []) None) ≡ push_word push s (replicate e (g - 1))
+    → push_configuration (rowed_presentation T) push s (sparse_configuration T.tails (syllable g e ∷ []) None)
+    ≡ push_word push s (replicate e (g - 1))
 push_configuration-power T push is meaning s h g e one last =
     push_configuration-no_tail T push is meaning s h (syllable g e ∷ [])
-    (All-cons (λ (s : Syllable). (1 ≤ s.generator) × (s.generator ≤ T.presentation.rank)) (syllable g e) [] (one, last) (λ k d l. absurd (omega arith)))
+    (All-cons (λ (s : Syllable). (1 ≤ s.generator) × (s.generator ≤ T.presentation.rank)) (syllable g e) [] (one, last)
+    (λ k d l. absurd (omega arith)))
     ∙ ap (push_word push s) (append-nil (replicate e (g - 1)))
 
 -- a word from a state on, and a configuration behind it
@@ -103,6 +110,7 @@ module _ (T : TailedPresentation) (is : IsTailedPresentation T) where
       let w : List ℕ = places_of (syllable j (T.presentation.prime - 1) ∷ syllable i 1 ∷ syllable j 1 ∷ []) in
       let make : List ℕ → Configuration = λ u. record { word = u; row = (right_way (rowed_presentation T) (left (j - 1) (i - 1))).row } in
       let side : List ℕ = spelled (suc (j - 1)) (commutator_side T.presentation (j - 1) (i - 1)) in
-      ap (λ (x : Configuration). let y : Configuration = record { word = w ++ x.word; row = x.row } in y) (commutator_side-numbered T is j i a b d)
+      ap (λ (x : Configuration). let y : Configuration = record { word = w ++ x.word; row = x.row } in y)
+      (commutator_side-numbered T is j i a b d)
       ∙ ap make (append_assoc (replicate (T.presentation.prime - 1) (j - 1)) ((i - 1) ∷ (j - 1) ∷ []) side)
       ∙ ap (λ (n : ℕ). make (replicate n (j - 1) ++ ((i - 1) ∷ (j - 1) ∷ side))) fewer

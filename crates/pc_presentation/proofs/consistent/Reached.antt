@@ -6,9 +6,11 @@ use Rattle.pq_base.specs.SignedWord.{copies, HasLetters}
 use Rattle.pq_base.specs.Table.{AllBelow}
 use Rattle.pq_base.specs.Presentation.{Presentation, IsPresentation, letter, power_side, commutator_side}
 use Rattle.pq_base.specs.Joined.{Joined, Reaches}
-use Rattle.pq_base.proofs.words.JoinedLaws.{joined-refl, joined-sym, joined-trans, joined-from_equal, joined-append, joined-append_left, joined-append_right, joined-solve_right, power-joined, letter-swap-joined}
+use Rattle.pq_base.proofs.words.JoinedLaws.{joined-refl, joined-sym, joined-trans, joined-from_equal, joined-append, joined-append_left}
+use Rattle.pq_base.proofs.words.JoinedLaws.{joined-append_right, joined-solve_right, power-joined, letter-swap-joined}
 use Rattle.pc_presentation.specs.Rowed.{RowedPresentation, IsRowed, without_rows}
-use Rattle.pc_presentation.specs.Collection.{Configuration, State, IsState, Step, Replacement, DirectedRun, identity, spelled, letters, push_word, plain_push}
+use Rattle.pc_presentation.specs.Collection.{Configuration, State, IsState, Step, Replacement, DirectedRun, identity, spelled, letters}
+use Rattle.pc_presentation.specs.Collection.{push_word, plain_push}
 use Rattle.pc_presentation.specs.Collection.Step.{replace}
 use Rattle.pc_presentation.specs.Collection.Run.{stop, move}
 use Rattle.pc_presentation.specs.Collection.Replacement.{swap, power}
@@ -23,7 +25,8 @@ use Rattle.pc_presentation.proofs.rows.FlatLaws.{without_rows-rowed}
 
 replacement-joined : (Y : RowedPresentation) {l r t : List ℕ} → Replacement Y l r t → Joined Y.base (letters l) (letters r)
 replacement-joined Y (swap j i h m) =
-    subst (λ (w : List ℤ). Joined Y.base (letters (j ∷ i ∷ [])) (letter i ++ (letter j ++ w))) (sym (letters-spelled (suc j) (commutator_side Y.base j i)))
+    subst (λ (w : List ℤ). Joined Y.base (letters (j ∷ i ∷ [])) (letter i ++ (letter j ++ w)))
+    (sym (letters-spelled (suc j) (commutator_side Y.base j i)))
     (letter-swap-joined Y.base j i h m)
 replacement-joined Y (power i h) =
     subst (λ (w : List ℤ). Joined Y.base w (letters (spelled (suc i) (power_side Y.base i)))) (sym (letters-replicate Y.base.prime i))
@@ -33,7 +36,8 @@ replacement-joined Y (power i h) =
 letters-three : (a l b : List ℕ) → letters (a ++ (l ++ b)) ≡ letters a ++ (letters l ++ letters b)
 letters-three a l b = letters-append a (l ++ b) ∙ ap (λ (w : List ℤ). letters a ++ w) (letters-append l b)
 
-step-joined : (Y : RowedPresentation) {c d : Configuration} → Step Y.base.prime (Replacement Y) c d → Joined Y.base (letters c.word) (letters d.word)
+step-joined : (Y : RowedPresentation) {c d : Configuration} → Step Y.base.prime (Replacement Y) c d
+    → Joined Y.base (letters c.word) (letters d.word)
 step-joined Y (replace a l r b t x h) =
     let m : Joined Y.base (letters a ++ (letters l ++ letters b)) (letters a ++ (letters r ++ letters b)) =
     joined-append_left (letters a) (joined-append_right (letters b) (replacement-joined Y h)) in
@@ -57,16 +61,19 @@ pub record Settles (Y : RowedPresentation) (w : List ℤ) : Type 0 where
 
 -- pushes of any collector are joined in the base to the words one after the other
 module _ (Y : RowedPresentation) (push : State → ℕ → State) (meaning : IsMeaning Y push) where
-  push-joined_base : (s : State) (i : ℕ) → IsState Y Y.base.rank s → i < Y.base.rank → Joined Y.base (state_word s ++ letter i) (state_word (push s i))
+  push-joined_base : (s : State) (i : ℕ) → IsState Y Y.base.rank s → i < Y.base.rank
+      → Joined Y.base (state_word s ++ letter i) (state_word (push s i))
   push-joined_base s i h l =
-      subst (λ (w : List ℤ). Joined Y.base w (state_word (push s i))) (letters-append (spelled 0 s.exponents) (i ∷ [])) (run-joined Y (meaning.pushed s i h l).run)
+      subst (λ (w : List ℤ). Joined Y.base w (state_word (push s i))) (letters-append (spelled 0 s.exponents) (i ∷ []))
+      (run-joined Y (meaning.pushed s i h l).run)
 
   pub push_word-joined_base : (u : List ℕ) (s : State) → IsState Y Y.base.rank s → AllBelow Y.base.rank u
       → Joined Y.base (state_word s ++ letters u) (state_word (push_word push s u))
   push_word-joined_base [] s h b = joined-from_equal Y.base (append-nil (state_word s))
   push_word-joined_base (i ∷ u) s h b =
       joined-trans (joined-from_equal Y.base (sym (append_assoc (state_word s) (letter i) (letters u))))
-      (joined-trans (joined-append_right (letters u) (push-joined_base s i h b.0)) (push_word-joined_base u (push s i) (meaning.pushed s i h b.0).state b.1))
+      (joined-trans (joined-append_right (letters u) (push-joined_base s i h b.0))
+      (push_word-joined_base u (push s i) (meaning.pushed s i h b.0).state b.1))
 
 module _ (Y : RowedPresentation) (rowed : IsRowed Y) (positive : 0 < Y.base.prime) where
   pub plain_meaning : IsMeaning Y (plain_push Y)
@@ -80,7 +87,8 @@ module _ (Y : RowedPresentation) (rowed : IsRowed Y) (positive : 0 < Y.base.prim
 
   pub star-joined : (s t : State) → IsState Y Y.base.rank s → IsState Y Y.base.rank t
       → Joined Y.base (state_word s ++ state_word t) (state_word (star Y Y.base.rank 0 s t))
-  star-joined s t h v = let c = v.exponents.count in push_word-joined s (spelled 0 t.exponents) h (AllBelow-spelled Y.base.rank 0 t.exponents (omega arith))
+  star-joined s t h v = let c = v.exponents.count in
+      push_word-joined s (spelled 0 t.exponents) h (AllBelow-spelled Y.base.rank 0 t.exponents (omega arith))
 
   identity-word : state_word (identity Y Y.base.rank) ≡ []
   identity-word = ap letters (spelled-zeros 0 Y.base.rank)
@@ -92,7 +100,9 @@ module _ (Y : RowedPresentation) (rowed : IsRowed Y) (positive : 0 < Y.base.prim
       record {
         state = plain Y Y.base.rank 0 one i;
         valid = plain-state Y rowed positive Y.base.rank 0 one i ones;
-        joined = subst (λ (w : List ℤ). Joined Y.base (w ++ letter i) (state_word (plain Y Y.base.rank 0 (identity Y Y.base.rank) i))) identity-word (push_word-joined one (i ∷ []) ones (l, tt));
+        joined =
+            subst (λ (w : List ℤ). Joined Y.base (w ++ letter i) (state_word (plain Y Y.base.rank 0 (identity Y Y.base.rank) i)))
+            identity-word (push_word-joined one (i ∷ []) ones (l, tt));
       }
 
   settles_inverse : (i : ℕ) → i < Y.base.rank → Settles Y (negsuc i ∷ [])
@@ -100,10 +110,12 @@ module _ (Y : RowedPresentation) (rowed : IsRowed Y) (positive : 0 < Y.base.prim
       let g = settles_letter i l in
       let r = right_inverse Y rowed positive Y.base.rank 0 g.state g.valid in
       let whole : Joined Y.base (state_word g.state ++ state_word r.state) (state_word (identity Y Y.base.rank)) =
-      subst (λ (s : State). Joined Y.base (state_word g.state ++ state_word r.state) (state_word s)) r.is (star-joined g.state r.state g.valid r.valid) in
+      subst (λ (s : State). Joined Y.base (state_word g.state ++ state_word r.state) (state_word s)) r.is
+      (star-joined g.state r.state g.valid r.valid) in
       let solved : Joined Y.base (state_word r.state) (negsuc i ∷ []) =
       joined-solve_right (letter i) (state_word r.state)
-      (joined-trans (joined-append_right (state_word r.state) g.joined) (subst (λ (w : List ℤ). Joined Y.base (state_word g.state ++ state_word r.state) w) identity-word whole)) in
+      (joined-trans (joined-append_right (state_word r.state) g.joined)
+      (subst (λ (w : List ℤ). Joined Y.base (state_word g.state ++ state_word r.state) w) identity-word whole)) in
       record { state = r.state; valid = r.valid; joined = joined-sym solved }
 
   settles_product : (u v : List ℤ) → Settles Y u → Settles Y v → Settles Y (u ++ v)

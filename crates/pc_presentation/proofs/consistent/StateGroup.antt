@@ -1,15 +1,19 @@
 -- Where the relations act, the states are a group.
-use Rattle.std.proofs.Common.{◌≡◌, ℕ, zero, suc, ◌+◌, ◌-◌, ◌<◌, List, [], ◌∷◌, length, replicate, refl, ap, sym, ◌∙◌, subst, arith, inl, inr}
+use Rattle.std.proofs.Common.{◌≡◌, ℕ, zero, suc, ◌+◌, ◌-◌, ◌<◌, List, [], ◌∷◌, length, replicate, refl, ap, sym, ◌∙◌, subst, arith, inl}
+use Rattle.std.proofs.Common.{inr}
 use Rattle.std.proofs.lemmas.Bool.{cases_lt}
 use Rattle.pq_base.proofs.groups.Groups.{Group}
 use Rattle.fp_rows.specs.Rows.{negative_row}
 use Rattle.pc_presentation.specs.Rowed.{RowedPresentation, IsRowed}
-use Rattle.pc_presentation.specs.Collection.{State, IsState, identity, spelled, add_row, before, push_word, push_configuration, configuration_of}
+use Rattle.pc_presentation.specs.Collection.{State, IsState, identity, spelled, add_row, before, push_word, push_configuration}
+use Rattle.pc_presentation.specs.Collection.{configuration_of}
 use Rattle.pc_presentation.proofs.rows.RowLaws.{identity-state, before-state, is_before, negative_row-normal, row_sum-negative_row}
 use Rattle.pc_presentation.proofs.collecting.PushLaws.{push_word-append}
 use Rattle.pc_presentation.proofs.collecting.PlainRule.{plain, plain-later_word, spelled-suc}
-use Rattle.pc_presentation.proofs.collecting.StateProducts.{star, RelationsAct, star-identity_left, star-identity_right, star-state, star-assoc, push_configuration-state}
-use Rattle.pc_presentation.proofs.collecting.PassedStates.{past, past-state, full_power-state, passed, full_power, first-raise, first-full, passed-state}
+use Rattle.pc_presentation.proofs.collecting.StateProducts.{star, RelationsAct, star-identity_left, star-identity_right, star-state}
+use Rattle.pc_presentation.proofs.collecting.StateProducts.{star-assoc, push_configuration-state}
+use Rattle.pc_presentation.proofs.collecting.PassedStates.{past, past-state, full_power-state, passed, full_power, first-raise, first-full}
+use Rattle.pc_presentation.proofs.collecting.PassedStates.{passed-state}
 
 -- a state whose product behind s is the state of zeros
 pub record RightInverse (Y : RowedPresentation) (n k : ℕ) (s : State) : Type 0 where
@@ -27,7 +31,8 @@ module _ (Y : RowedPresentation) (rowed : IsRowed Y) (positive : 0 < Y.base.prim
   raise_to_zero : (n k d e : ℕ) (s : State) → e + suc d ≡ Y.base.prime → IsState Y n s → ToZero Y n k e (suc d) s
   raise_to_zero n k zero e s q h = record {
     rest = push_configuration Y (past Y n k) (full_power Y n k) (configuration_of s);
-    valid = push_configuration-state Y rowed positive n (suc k) (past Y n k) (past-state Y rowed positive n k) (full_power Y n k) s (full_power-state Y rowed positive n k) h;
+    valid = push_configuration-state Y rowed positive n (suc k) (past Y n k) (past-state Y rowed positive n k) (full_power Y n k) s
+        (full_power-state Y rowed positive n k) h;
     is = first-full Y rowed positive n k e s (omega arith) h;
   }
   raise_to_zero n k (suc d) e s q h =
@@ -35,10 +40,12 @@ module _ (Y : RowedPresentation) (rowed : IsRowed Y) (positive : 0 < Y.base.prim
       record {
         rest = r.rest;
         valid = r.valid;
-        is = ap (λ (z : State). push_word (plain Y (suc n) k) z (replicate (suc d) 0)) (first-raise Y rowed positive n k e s (omega arith) h) ∙ r.is;
+        is = ap (λ (z : State). push_word (plain Y (suc n) k) z (replicate (suc d) 0))
+            (first-raise Y rowed positive n k e s (omega arith) h) ∙ r.is;
       }
 
-  before_inverse : (n k e c : ℕ) (s : State) → c < Y.base.prime → (z : ToZero Y n k e c s) → RightInverse Y n (suc k) z.rest → RightInverse Y (suc n) k (before e s)
+  before_inverse : (n k e c : ℕ) (s : State) → c < Y.base.prime → (z : ToZero Y n k e c s) → RightInverse Y n (suc k) z.rest
+      → RightInverse Y (suc n) k (before e s)
   before_inverse n k e c s l z r = record {
     state = before c r.state;
     valid = before-state Y n c r.state l r.valid;

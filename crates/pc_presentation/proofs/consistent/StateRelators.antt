@@ -1,11 +1,13 @@
 -- Where the relations act, each relator of the flat reading has value one in the group of states, and the value of a normal
 -- word is the state of its exponents. So joined normal words are equal.
-use Rattle.std.proofs.Common.{◌≡◌, ℕ, suc, ◌+◌, ◌-◌, ◌<◌, ℤ, pos, List, [], ◌∷◌, ◌++◌, length, take, drop, replicate, ap, sym, ◌∙◌, subst, arith, inl, inr, length-drop}
+use Rattle.std.proofs.Common.{◌≡◌, ℕ, suc, ◌+◌, ◌-◌, ◌<◌, ℤ, pos, List, [], ◌∷◌, ◌++◌, length, take, drop, replicate, ap, sym, ◌∙◌, subst}
+use Rattle.std.proofs.Common.{arith, inl, inr, length-drop}
 use Rattle.std.proofs.Math.Nat.{mod_self}
 use Rattle.std.proofs.lemmas.List.{take-append-drop, length-take-le}
 use Rattle.std.proofs.lemmas.Bool.{cases_lt}
 use Rattle.pq_base.specs.SignedWord.{copies, comm}
-use Rattle.pq_base.specs.Presentation.{IsRelatorOf, IsNormal, letter, word_from, normal_word, power_side, commutator_side, power_word, commutator_word}
+use Rattle.pq_base.specs.Presentation.{IsRelatorOf, IsNormal, letter, word_from, normal_word, power_side, commutator_side, power_word}
+use Rattle.pq_base.specs.Presentation.{commutator_word}
 use Rattle.pq_base.specs.Presentation.IsRelatorOf.{power_relator, commutator_relator}
 use Rattle.pq_base.specs.Joined.{Joined}
 use Rattle.pq_base.proofs.words.WordLaws.{word_from-append, word_from-zeros}
@@ -44,13 +46,15 @@ module _ (Y : RowedPresentation) (rowed : IsRowed Y) (big : 1 < Y.base.prime) (a
   pub value-letter_of_tail : (t : ℕ) → t < Y.width → state_value (letter (Y.base.rank + t)) ≡ row_state (single Y.width t 1)
   value-letter_of_tail t l = value_in-letter states all_states (pos (suc (Y.base.rank + t))) ∙ Values.all_states-tail Y rowed big acts t l
 
-  row_state-star : (x : List ℕ) (s : State) → IsNormal Y.base.prime Y.width x → IsState Y Y.base.rank s → star Y Y.base.rank 0 (row_state x) s ≡ add_row Y.base.prime x s
+  row_state-star : (x : List ℕ) (s : State) → IsNormal Y.base.prime Y.width x → IsState Y Y.base.rank s
+      → star Y Y.base.rank 0 (row_state x) s ≡ add_row Y.base.prime x s
   row_state-star x s n h =
       ap (λ (y : List ℕ). star Y Y.base.rank 0 (row_state y) s) (sym (zeros-row_sum Y.base.prime Y.width x n))
       ∙ push_configuration-add_row Y (plain Y Y.base.rank 0) (plain-rides Y Y.base.rank 0) x (identity Y Y.base.rank) (configuration_of s)
       ∙ ap (add_row Y.base.prime x) (star-identity_left Y Y.base.rank 0 s h)
 
-  pub value-tail_commutes : (t : ℕ) (w : List ℤ) → t < Y.width → state_value (letter (Y.base.rank + t) ++ w) ≡ state_value (w ++ letter (Y.base.rank + t))
+  pub value-tail_commutes : (t : ℕ) (w : List ℤ) → t < Y.width
+      → state_value (letter (Y.base.rank + t) ++ w) ≡ state_value (w ++ letter (Y.base.rank + t))
   value-tail_commutes t w l =
       let z : List ℤ = letter (Y.base.rank + t) in
       let x : List ℕ = single Y.width t 1 in
@@ -71,8 +75,10 @@ module _ (Y : RowedPresentation) (rowed : IsRowed Y) (big : 1 < Y.base.prime) (a
       let c = (rowed.base.power_sides i l).count in
       ap state_value (sym (letters-replicate p i))
       ∙ Values.value-letters Y rowed big acts (replicate p i) (AllBelow-replicate Y.base.rank p i l)
-      ∙ acts (identity Y Y.base.rank) (identity-state Y Y.base.rank (Values.is_positive Y rowed big acts)) (replicate Y.base.prime i) (spelled (suc i) side) row (power_from i i (omega arith) l)
-      ∙ sym (Values.value-with_row Y rowed big acts (spelled (suc i) side) row (AllBelow-spelled Y.base.rank (suc i) side (omega arith)) (rowed.power_rows i l))
+      ∙ acts (identity Y Y.base.rank) (identity-state Y Y.base.rank (Values.is_positive Y rowed big acts)) (replicate Y.base.prime i)
+      (spelled (suc i) side) row (power_from i i (omega arith) l)
+      ∙ sym (Values.value-with_row Y rowed big acts (spelled (suc i) side) row (AllBelow-spelled Y.base.rank (suc i) side (omega arith))
+      (rowed.power_rows i l))
       ∙ ap state_value (sym (ap (word_from (suc i)) (power_side-flat Y rowed i l) ∙ word_from-side_and_row Y.base.rank i side row c))
 
   swap-value : (j i : ℕ) → j < Y.base.rank → i < j
@@ -82,33 +88,41 @@ module _ (Y : RowedPresentation) (rowed : IsRowed Y) (big : 1 < Y.base.prime) (a
       let row : List ℕ = commutator_row Y j i in
       let c = (rowed.base.commutator_sides j i l m).count in
       Values.value-letters Y rowed big acts (j ∷ i ∷ []) (l, (omega arith, tt))
-      ∙ acts (identity Y Y.base.rank) (identity-state Y Y.base.rank (Values.is_positive Y rowed big acts)) (j ∷ i ∷ []) (i ∷ j ∷ spelled (suc j) side) row
+      ∙ acts (identity Y Y.base.rank) (identity-state Y Y.base.rank (Values.is_positive Y rowed big acts)) (j ∷ i ∷ [])
+      (i ∷ j ∷ spelled (suc j) side) row
       (swap_from j i j i (omega arith) (omega arith) l m)
-      ∙ sym (Values.value-with_row Y rowed big acts (i ∷ j ∷ spelled (suc j) side) row (omega arith, (l, AllBelow-spelled Y.base.rank (suc j) side (omega arith))) (rowed.commutator_rows j i l m))
-      ∙ ap (λ (w : List ℤ). state_value (letter i ++ (letter j ++ w))) (sym (ap (word_from (suc j)) (commutator_side-flat Y rowed j i l) ∙ word_from-side_and_row Y.base.rank j side row c))
+      ∙ sym (Values.value-with_row Y rowed big acts (i ∷ j ∷ spelled (suc j) side) row
+      (omega arith, (l, AllBelow-spelled Y.base.rank (suc j) side (omega arith))) (rowed.commutator_rows j i l m))
+      ∙ ap (λ (w : List ℤ). state_value (letter i ++ (letter j ++ w)))
+      (sym (ap (word_from (suc j)) (commutator_side-flat Y rowed j i l) ∙ word_from-side_and_row Y.base.rank j side row c))
 
-  tail_power-value : (t : ℕ) → t < Y.width → state_value (copies (letter (Y.base.rank + t)) Y.base.prime) ≡ state_value (power_word (flat Y) (Y.base.rank + t))
+  tail_power-value : (t : ℕ) → t < Y.width
+      → state_value (copies (letter (Y.base.rank + t)) Y.base.prime) ≡ state_value (power_word (flat Y) (Y.base.rank + t))
   tail_power-value t l =
       let r : ℕ = Y.width - suc t in
       Values.value-copies_of_tail Y rowed big acts t Y.base.prime l
       ∙ ap (λ (m : ℕ). row_state (single Y.width t m)) (mod_self Y.base.prime)
       ∙ ap row_state (single-zero Y.width t)
-      ∙ ap state_value (sym (ap (word_from (suc (Y.base.rank + t))) (power_side-tail Y rowed t r (omega arith)) ∙ word_from-zeros (suc (Y.base.rank + t)) r))
+      ∙ ap state_value (sym (ap (word_from (suc (Y.base.rank + t))) (power_side-tail Y rowed t r (omega arith))
+      ∙ word_from-zeros (suc (Y.base.rank + t)) r))
 
   tail_swap-value : (t i : ℕ) → t < Y.width → i < Y.base.rank + t
-      → state_value (letter (Y.base.rank + t) ++ letter i) ≡ state_value (letter i ++ (letter (Y.base.rank + t) ++ commutator_word (flat Y) (Y.base.rank + t) i))
+      → state_value (letter (Y.base.rank + t) ++ letter i)
+      ≡ state_value (letter i ++ (letter (Y.base.rank + t) ++ commutator_word (flat Y) (Y.base.rank + t) i))
   tail_swap-value t i l m =
       let r : ℕ = Y.width - suc t in
       value-tail_commutes t (letter i) l
       ∙ ap (λ (w : List ℤ). state_value (letter i ++ (letter (Y.base.rank + t) ++ w)))
-      (sym (ap (word_from (suc (Y.base.rank + t))) (commutator_side-tail Y rowed t r i (omega arith) m) ∙ word_from-zeros (suc (Y.base.rank + t)) r))
+      (sym (ap (word_from (suc (Y.base.rank + t))) (commutator_side-tail Y rowed t r i (omega arith) m)
+      ∙ word_from-zeros (suc (Y.base.rank + t)) r))
 
   all_power-value : (i : ℕ) → i < Y.base.rank + Y.width → state_value (copies (letter i) Y.base.prime) ≡ state_value (power_word (flat Y) i)
   all_power-value i l = elim (cases_lt i Y.base.rank) [
     | inl h ↦ power-value i h
     | inr h ↦
         let t : ℕ = i - Y.base.rank in
-        subst (λ (m : ℕ). state_value (copies (letter m) Y.base.prime) ≡ state_value (power_word (flat Y) m)) (let e : Y.base.rank + t ≡ i = omega arith in e)
+        subst (λ (m : ℕ). state_value (copies (letter m) Y.base.prime) ≡ state_value (power_word (flat Y) m))
+        (let e : Y.base.rank + t ≡ i = omega arith in e)
         (tail_power-value t (omega arith))
   ]
 
@@ -124,7 +138,8 @@ module _ (Y : RowedPresentation) (rowed : IsRowed Y) (big : 1 < Y.base.prime) (a
   ]
 
   pub relators-one : (r : List ℤ) → IsRelatorOf (flat Y) r → state_value r ≡ identity Y Y.base.rank
-  relators-one _ (power_relator i l) = relator-one states all_states (copies (letter i) Y.base.prime) (power_word (flat Y) i) (all_power-value i l)
+  relators-one _ (power_relator i l) =
+      relator-one states all_states (copies (letter i) Y.base.prime) (power_word (flat Y) i) (all_power-value i l)
   relators-one _ (commutator_relator j i l m) =
       relator-one states all_states (comm (letter j) (letter i)) (commutator_word (flat Y) j i)
       (commutator-value states all_states (letter j) (letter i) (commutator_word (flat Y) j i) (all_swap-value j i l m))
@@ -162,9 +177,11 @@ module _ (Y : RowedPresentation) (rowed : IsRowed Y) (big : 1 < Y.base.prime) (a
       ∙ value-normal_word (take Y.base.rank e) (drop Y.base.rank e) front back
 
   -- so joined normal words are equal
-  pub normal_words-unique : (e f : List ℕ) → IsNormal Y.base.prime (Y.base.rank + Y.width) e → IsNormal Y.base.prime (Y.base.rank + Y.width) f
+  pub normal_words-unique : (e f : List ℕ) → IsNormal Y.base.prime (Y.base.rank + Y.width) e
+      → IsNormal Y.base.prime (Y.base.rank + Y.width) f
       → Joined (flat Y) (normal_word e) (normal_word f) → e ≡ f
   normal_words-unique e f h i c =
-      let same : record { exponents = take Y.base.rank e; row = drop Y.base.rank e } ≡ record { exponents = take Y.base.rank f; row = drop Y.base.rank f } =
+      let same : record { exponents = take Y.base.rank e; row = drop Y.base.rank e }
+      ≡ record { exponents = take Y.base.rank f; row = drop Y.base.rank f } =
       sym (value-normal e h) ∙ joined-values c ∙ value-normal f i in
       sym (take-append-drop Y.base.rank e) ∙ ap (λ (s : State). s.exponents ++ s.row) same ∙ take-append-drop Y.base.rank f

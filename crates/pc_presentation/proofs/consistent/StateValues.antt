@@ -1,6 +1,7 @@
 -- Where the relations act, the generators and the tails are states of the group of states. The value of a word of
 -- generators is the state that its letters lead to, and that of a word of tails is its row.
-use Rattle.std.proofs.Common.{◌≡◌, ℕ, zero, suc, ◌+◌, ◌%◌, ◌<◌, ℤ, List, [], ◌∷◌, ◌++◌, get_or, length, replicate, refl, ap, sym, ◌∙◌, arith, mod-eq_of_lt}
+use Rattle.std.proofs.Common.{◌≡◌, ℕ, zero, suc, ◌+◌, ◌%◌, ◌<◌, ℤ, List, [], ◌∷◌, ◌++◌, get_or, length, replicate, refl, ap, sym, ◌∙◌}
+use Rattle.std.proofs.Common.{arith, mod-eq_of_lt}
 use Rattle.std.proofs.Math.Nat.{zero-mod, add-mod-mod}
 use Rattle.std.proofs.lemmas.List.{append-nil, get_or_append_left, get_or-append-add}
 use Rattle.pq_base.specs.SignedWord.{copies}
@@ -40,7 +41,11 @@ module _ (Y : RowedPresentation) (rowed : IsRowed Y) (big : 1 < Y.base.prime) (a
   generator_state i = record { state = plain Y Y.base.rank 0 (identity Y Y.base.rank) i; valid = generator-valid i }
 
   abbrev pub tail_state : ℕ → ValidState Y Y.base.rank
-  tail_state t = record { state = row_state (single Y.width t 1); valid = row_state-valid (single Y.width t 1) (single-normal Y.base.prime Y.width t 1 big) }
+  tail_state t =
+      record {
+        state = row_state (single Y.width t 1);
+        valid = row_state-valid (single Y.width t 1) (single-normal Y.base.prime Y.width t 1 big);
+      }
 
   abbrev pub all_states : List (ValidState Y Y.base.rank)
   all_states = list_from generator_state 0 Y.base.rank ++ list_from tail_state 0 Y.width
@@ -48,7 +53,8 @@ module _ (Y : RowedPresentation) (rowed : IsRowed Y) (big : 1 < Y.base.prime) (a
   abbrev pub state_value : List ℤ → State
   state_value w = (value_in states all_states w).state
 
-  all_states-generator : (i : ℕ) → i < Y.base.rank → (get_or all_states i states.one).state ≡ plain Y Y.base.rank 0 (identity Y Y.base.rank) i
+  all_states-generator : (i : ℕ) → i < Y.base.rank
+      → (get_or all_states i states.one).state ≡ plain Y Y.base.rank 0 (identity Y Y.base.rank) i
   all_states-generator i l =
       let c = length-list_from generator_state 0 Y.base.rank in
       ap (λ (x : ValidState Y Y.base.rank). x.state)
@@ -69,7 +75,8 @@ module _ (Y : RowedPresentation) (rowed : IsRowed Y) (big : 1 < Y.base.prime) (a
   star-row_state s x = ap (λ (u : List ℕ). add_row Y.base.prime x (push_word (plain Y Y.base.rank 0) s u)) (spelled-zeros 0 Y.base.rank)
 
   -- values of words of generators
-  pub value-letters : (u : List ℕ) → AllBelow Y.base.rank u → state_value (letters u) ≡ push_word (plain Y Y.base.rank 0) (identity Y Y.base.rank) u
+  pub value-letters : (u : List ℕ) → AllBelow Y.base.rank u
+      → state_value (letters u) ≡ push_word (plain Y Y.base.rank 0) (identity Y Y.base.rank) u
   value-letters [] h = refl
   value-letters (i ∷ u) h =
       let one : State = identity Y Y.base.rank in
@@ -77,12 +84,14 @@ module _ (Y : RowedPresentation) (rowed : IsRowed Y) (big : 1 < Y.base.prime) (a
       let g : State = plain Y Y.base.rank 0 one i in
       ap (λ (s : State). star Y Y.base.rank 0 s (state_value (letters u))) (all_states-generator i h.0)
       ∙ ap (star Y Y.base.rank 0 g) (value-letters u h.1)
-      ∙ star-push_word Y rowed is_positive Y.base.rank 0 whole_size acts (plain Y Y.base.rank 0) (plain-state Y rowed is_positive Y.base.rank 0)
+      ∙ star-push_word Y rowed is_positive Y.base.rank 0 whole_size acts (plain Y Y.base.rank 0)
+      (plain-state Y rowed is_positive Y.base.rank 0)
       (star-push Y rowed is_positive Y.base.rank 0 whole_size acts) g one u (generator-valid i) ones
       ∙ ap (λ (s : State). push_word (plain Y Y.base.rank 0) s u) (star-identity_right Y Y.base.rank 0 g (generator-valid i))
 
   -- and of words of tails
-  pub value-copies_of_tail : (t c : ℕ) → t < Y.width → state_value (copies (letter (Y.base.rank + t)) c) ≡ row_state (single Y.width t (c % Y.base.prime))
+  pub value-copies_of_tail : (t c : ℕ) → t < Y.width
+      → state_value (copies (letter (Y.base.rank + t)) c) ≡ row_state (single Y.width t (c % Y.base.prime))
   value-copies_of_tail t zero l =
       ap row_state (sym (single-zero Y.width t) ∙ ap (single Y.width t) (sym (zero-mod Y.base.prime)))
   value-copies_of_tail t (suc c) l =
@@ -109,7 +118,8 @@ module _ (Y : RowedPresentation) (rowed : IsRowed Y) (big : 1 < Y.base.prime) (a
       (value-copies_of_tail t c (omega arith) ∙ ap (λ (m : ℕ). row_state (single Y.width t m)) (mod-eq_of_lt h.0))
       ∙ ap (star Y Y.base.rank 0 (row_state (single Y.width t c))) rest
       ∙ star-row_state (row_state (single Y.width t c)) (replicate (suc t) 0 ++ x)
-      ∙ ap (λ (q : ℕ). row_state (row_sum Y.base.prime (single q t c) (replicate (suc t) 0 ++ x))) (let g : Y.width ≡ t + suc (length x) = omega arith in g)
+      ∙ ap (λ (q : ℕ). row_state (row_sum Y.base.prime (single q t c) (replicate (suc t) 0 ++ x)))
+      (let g : Y.width ≡ t + suc (length x) = omega arith in g)
       ∙ ap row_state (single-front Y.base.prime t c x h.0 h.1)
 
   pub value-tails : (x : List ℕ) → IsNormal Y.base.prime Y.width x → state_value (word_from Y.base.rank x) ≡ row_state x
@@ -119,7 +129,8 @@ module _ (Y : RowedPresentation) (rowed : IsRowed Y) (big : 1 < Y.base.prime) (a
 
   -- letters of generators and a row
   pub value-with_row : (u x : List ℕ) → AllBelow Y.base.rank u → IsNormal Y.base.prime Y.width x
-      → state_value (letters u ++ word_from Y.base.rank x) ≡ add_row Y.base.prime x (push_word (plain Y Y.base.rank 0) (identity Y Y.base.rank) u)
+      → state_value (letters u ++ word_from Y.base.rank x)
+      ≡ add_row Y.base.prime x (push_word (plain Y Y.base.rank 0) (identity Y Y.base.rank) u)
   value-with_row u x h n =
       value_in-append states all_states (letters u) (word_from Y.base.rank x)
       ∙ ap (λ (s : State). star Y Y.base.rank 0 s (state_value (word_from Y.base.rank x))) (value-letters u h)

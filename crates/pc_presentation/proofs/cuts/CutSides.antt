@@ -1,23 +1,27 @@
 -- The right sides of a presentation that is cut after some generator, and their words: it is a presentation, and leaving
 -- out the letters that are cut off carries its relators to trivial words.
-use Rattle.std.proofs.Common.{◌≡◌, ℕ, zero, suc, ◌+◌, ◌-◌, ◌<◌, ◌≤◌, ℤ, List, [], ◌∷◌, ◌++◌, get_or, length, map, take, replicate, refl, ap, ap₂, sym, ◌∙◌, subst, arith, inl, inr}
+use Rattle.std.proofs.Common.{◌≡◌, ℕ, zero, suc, ◌+◌, ◌-◌, ◌<◌, ◌≤◌, ℤ, List, [], ◌∷◌, ◌++◌, get_or, length, map, take, replicate, refl, ap}
+use Rattle.std.proofs.Common.{ap₂, sym, ◌∙◌, subst, arith, inl, inr}
 use Rattle.std.proofs.lemmas.List.{length-take-le, length-map}
 use Rattle.std.proofs.lemmas.Bool.{cases_lt}
 use Rattle.std.proofs.Math.ListN.{get_or-map}
 use Rattle.pq_base.specs.SignedWord.{inv, copies, comm, sub}
-use Rattle.pq_base.specs.Presentation.{Presentation, IsPresentation, IsLaterSide, IsRelatorOf, letter, word_from, normal_word, power_side, commutator_side, power_word, commutator_word}
+use Rattle.pq_base.specs.Presentation.{Presentation, IsPresentation, IsLaterSide, IsRelatorOf, letter, word_from, normal_word, power_side}
+use Rattle.pq_base.specs.Presentation.{commutator_side, power_word, commutator_word}
 use Rattle.pq_base.specs.Presentation.IsRelatorOf.{power_relator, commutator_relator}
 use Rattle.pq_base.specs.Joined.{Joined}
 use Rattle.pq_base.specs.Series.{InSeries}
 use Rattle.pq_base.specs.Canonical.{cut_powers, cut_commutators, first_generators}
 use Rattle.pq_base.proofs.words.WordLaws.{copies-nil, sub-append, sub-inv, sub-copies, sub-comm, sub-letter, word_from-zeros-append}
 use Rattle.pq_base.proofs.words.LetterLaws.{HasLetters-letter, HasLetters-copies, HasLetters-comm}
-use Rattle.pq_base.proofs.words.JoinedLaws.{joined-from_equal, joined-trans, joined-quotient, inv-append-joined, power-joined, commutator-joined}
+use Rattle.pq_base.proofs.words.JoinedLaws.{joined-from_equal, joined-trans, joined-quotient, inv-append-joined, power-joined}
+use Rattle.pq_base.proofs.words.JoinedLaws.{commutator-joined}
 use Rattle.pq_base.proofs.words.WordGroup.{joined-sub}
 use Rattle.pq_base.proofs.CarryLaws.{series-sub}
 use Rattle.fp_rows.proofs.BelowLaws.{AllBelow-take}
 use Rattle.pc_presentation.specs.RowedLaws.{projection}
-use Rattle.pc_presentation.proofs.rows.Projections.{get_or-projection, get_or-projection_past, AreWords-projection, sub-projection, sub-row_word}
+use Rattle.pc_presentation.proofs.rows.Projections.{get_or-projection, get_or-projection_past, AreWords-projection, sub-projection}
+use Rattle.pc_presentation.proofs.rows.Projections.{sub-row_word}
 use Rattle.pc_presentation.specs.CutLaws.{cut_word, CutsCarryJoinedWords, CutsArePresentations}
 
 -- sides that are cut
@@ -36,7 +40,8 @@ length-cut_powers zero sides l = refl
 length-cut_powers (suc n) [] l = absurd (omega arith)
 length-cut_powers (suc n) (s ∷ sides) l = ap suc (length-cut_powers n sides (omega arith))
 
-get_or-cut_commutators : (n j r : ℕ) (rows : List (List (List ℕ))) → suc j + r ≡ n → get_or (cut_commutators n rows) j [] ≡ map (take r) (get_or rows j [])
+get_or-cut_commutators : (n j r : ℕ) (rows : List (List (List ℕ))) → suc j + r ≡ n
+    → get_or (cut_commutators n rows) j [] ≡ map (take r) (get_or rows j [])
 get_or-cut_commutators zero j r rows e = absurd (omega arith)
 get_or-cut_commutators (suc n) j r [] e = refl
 get_or-cut_commutators (suc n) zero r (row ∷ rows) e = let same : n ≡ r = omega arith in ap (λ (k : ℕ). map (take k) row) same
@@ -111,10 +116,12 @@ module _ (P : Presentation) (is : IsPresentation P) (m : ℕ) (within : m ≤ P.
         prime = is.prime;
         power_count = length-cut_powers m P.powers (omega arith);
         power_sides = λ i l.
-            subst (λ (e : List ℕ). IsLaterSide C i e) (sym (power_side-cut i l)) (side-cut i (power_side P i) l (is.power_sides i (omega arith)));
+            subst (λ (e : List ℕ). IsLaterSide C i e) (sym (power_side-cut i l))
+            (side-cut i (power_side P i) l (is.power_sides i (omega arith)));
         commutator_count = length-cut_commutators m P.commutators (omega arith);
         commutator_counts = λ j l.
-            ap length (commutators-cut j l) ∙ length-map (get_or P.commutators j []) (take (m - suc j)) ∙ is.commutator_counts j (omega arith);
+            ap length (commutators-cut j l)
+            ∙ length-map (get_or P.commutators j []) (take (m - suc j)) ∙ is.commutator_counts j (omega arith);
         commutator_sides = λ j i l b.
             subst (λ (e : List ℕ). IsLaterSide C j e) (sym (commutator_side-cut j i l))
             (side-cut j (commutator_side P j i) l (is.commutator_sides j i (omega arith) b));
@@ -127,7 +134,8 @@ module _ (P : Presentation) (is : IsPresentation P) (m : ℕ) (within : m ≤ P.
         let left : sub (copies (letter i) P.prime) (projection m (P.rank - m)) ≡ copies (letter i) P.prime =
         sub-projection m (P.rank - m) (copies (letter i) P.prime) (HasLetters-copies m (letter i) P.prime (HasLetters-letter m i h)) in
         let right : sub (power_word P i) (projection m (P.rank - m)) ≡ power_word (first_generators m P) i =
-        sub-word_from m (P.rank - m) (suc i) (m - suc i) (power_side P i) (omega arith) ∙ ap (word_from (suc i)) (sym (power_side-cut i h)) in
+        sub-word_from m (P.rank - m) (suc i) (m - suc i) (power_side P i) (omega arith)
+        ∙ ap (word_from (suc i)) (sym (power_side-cut i h)) in
         joined-trans (joined-from_equal C left) (joined-trans (power-joined C i h) (joined-from_equal C (sym right)))
     | inr h ↦
         joined-from_equal C

@@ -1,17 +1,22 @@
 -- Words that are joined in a cut presentation differ in the whole by a later word. So the cut of a consistent presentation
 -- is consistent, and a word whose cut is trivial is joined to a normal word in the generators that are cut off.
-use Rattle.std.proofs.Common.{◌≡◌, ℕ, suc, ◌+◌, ◌-◌, ◌<◌, ◌≤◌, ℤ, List, [], ◌++◌, get_or, length, take, drop, replicate, ap, ap₂, sym, ◌∙◌, subst, arith, inl, inr, append_assoc, length-append}
+use Rattle.std.proofs.Common.{◌≡◌, ℕ, suc, ◌+◌, ◌-◌, ◌<◌, ◌≤◌, ℤ, List, [], ◌++◌, get_or, length, take, drop, replicate, ap, ap₂, sym, ◌∙◌}
+use Rattle.std.proofs.Common.{subst, arith, inl, inr, append_assoc, length-append}
 use Rattle.std.proofs.lemmas.List.{append-nil, take-append-drop, length-take-le, take_at}
 use Rattle.std.proofs.lemmas.Bool.{cases_lt}
 use Rattle.pq_base.specs.SignedWord.{inv, copies, comm, conj, sub, HasLetters}
-use Rattle.pq_base.specs.Presentation.{Presentation, IsPresentation, IsNormal, IsRelatorOf, letter, word_from, normal_word, power_side, commutator_side}
+use Rattle.pq_base.specs.Presentation.{Presentation, IsPresentation, IsNormal, IsRelatorOf, letter, word_from, normal_word, power_side}
+use Rattle.pq_base.specs.Presentation.{commutator_side}
 use Rattle.pq_base.specs.Presentation.IsRelatorOf.{power_relator, commutator_relator}
 use Rattle.pq_base.specs.Joined.{Joined, IsConsistent}
 use Rattle.pq_base.specs.Canonical.{first_generators}
-use Rattle.pq_base.proofs.words.WordLaws.{inv-inv, sub-append, sub-inv, sub-conj, word_from-append, normal_word-append, word_from-append-zeros}
-use Rattle.pq_base.proofs.words.LetterLaws.{HasLetters-weaken, HasLetters-append, HasLetters-inv, HasLetters-word_from, HasLetters-normal_word, HasLetters-relator, HasLetters-letter}
+use Rattle.pq_base.proofs.words.WordLaws.{inv-inv, sub-append, sub-inv, sub-conj, word_from-append, normal_word-append}
+use Rattle.pq_base.proofs.words.WordLaws.{word_from-append-zeros}
+use Rattle.pq_base.proofs.words.LetterLaws.{HasLetters-weaken, HasLetters-append, HasLetters-inv, HasLetters-word_from}
+use Rattle.pq_base.proofs.words.LetterLaws.{HasLetters-normal_word, HasLetters-relator, HasLetters-letter}
 use Rattle.pq_base.proofs.words.RangeLaws.{generators, get_or-generators, sub-generators, HasLetters-sub_generators}
-use Rattle.pq_base.proofs.words.JoinedLaws.{joined-from_equal, joined-sym, joined-trans, joined-append_right, joined-solve_right, inv-append-append-joined, power-joined, commutator-joined, relator-joined}
+use Rattle.pq_base.proofs.words.JoinedLaws.{joined-from_equal, joined-sym, joined-trans, joined-append_right, joined-solve_right}
+use Rattle.pq_base.proofs.words.JoinedLaws.{inv-append-append-joined, power-joined, commutator-joined, relator-joined}
 use Rattle.pq_base.proofs.groups.Groups.{Group, value_in, value_in-same}
 use Rattle.pq_base.proofs.groups.GroupQuotients.{IsNormalSet, differ_by, differ-same, differ-joined, quotient_group, value_in-quotient}
 use Rattle.pq_base.proofs.words.WordGroup.{word_group, value_in-word_group, joined-sub}
@@ -21,7 +26,8 @@ use Rattle.pc_presentation.proofs.consistent.Reached.{words-reach}
 use Rattle.pc_presentation.specs.RowedLaws.{projection}
 use Rattle.pc_presentation.proofs.rows.Projections.{get_or-projection, get_or-projection_past, HasLetters-projection}
 use Rattle.pc_presentation.specs.CutLaws.{cut_word, CutsAreConsistent, CutWordsAreLater}
-use Rattle.pc_presentation.proofs.cuts.LaterWords.{IsLater, later-kept, later-nil, later-append, later-letter, later-word_from, later-inv, later-conj, later-reaches}
+use Rattle.pc_presentation.proofs.cuts.LaterWords.{IsLater, later-kept, later-nil, later-append, later-letter, later-word_from, later-inv}
+use Rattle.pc_presentation.proofs.cuts.LaterWords.{later-conj, later-reaches}
 use Rattle.pc_presentation.proofs.cuts.CutSides.{power_side-cut, commutator_side-cut, cut-presentation}
 
 module _ (P : Presentation) (is : IsPresentation P) (big : 1 < P.prime) (m : ℕ) (within : m ≤ P.rank) where
@@ -96,7 +102,8 @@ module _ (P : Presentation) (is : IsPresentation P) (big : 1 < P.prime) (m : ℕ
       (first_part (copies (letter i) P.prime) i (power_side P i) l c (power-joined P i (omega arith)))
   relator-later r (commutator_relator j i l b) =
       let c = (is.commutator_sides j i (omega arith) b).count in
-      subst (λ (e : List ℕ). IsLater P m (comm (letter j) (letter i) ++ inv (word_from (suc j) e))) (sym (commutator_side-cut P is m within j i l))
+      subst (λ (e : List ℕ). IsLater P m (comm (letter j) (letter i) ++ inv (word_from (suc j) e)))
+      (sym (commutator_side-cut P is m within j i l))
       (first_part (comm (letter j) (letter i)) j (commutator_side P j i) l c (commutator-joined P j i (omega arith) b))
 
   wider : (w : List ℤ) → HasLetters m w → HasLetters P.rank w
@@ -119,7 +126,8 @@ module _ (P : Presentation) (is : IsPresentation P) (big : 1 < P.prime) (m : ℕ
       (subst InLater (ap₂ (λ (x y : List ℤ). inv x ++ y) left right) d)
 
   -- a word and its cut
-  letter-cut : (i : ℕ) → i < P.rank → differ_by (word_group P) InLater (get_or (projection m (P.rank - m)) i []) (get_or (generators P.rank) i [])
+  letter-cut : (i : ℕ) → i < P.rank
+      → differ_by (word_group P) InLater (get_or (projection m (P.rank - m)) i []) (get_or (generators P.rank) i [])
   letter-cut i l = elim (cases_lt i m) [
     | inl h ↦
         let same : get_or (projection m (P.rank - m)) i [] ≡ get_or (generators P.rank) i [] =
@@ -139,7 +147,8 @@ module _ (P : Presentation) (is : IsPresentation P) (big : 1 < P.prime) (m : ℕ
       let d : InLater (inv (value_in G (projection m (P.rank - m)) u) ++ value_in G (generators P.rank) u) =
       value_in-same G P.rank (projection m (P.rank - m)) (generators P.rank) letter-cut u h in
       let left : value_in G (projection m (P.rank - m)) u ≡ cut_word m P u =
-      value_in-quotient (word_group P) InLater later_normal (projection m (P.rank - m)) u ∙ value_in-word_group P (projection m (P.rank - m)) u in
+      value_in-quotient (word_group P) InLater later_normal (projection m (P.rank - m)) u
+      ∙ value_in-word_group P (projection m (P.rank - m)) u in
       let right : value_in G (generators P.rank) u ≡ u =
       value_in-quotient (word_group P) InLater later_normal (generators P.rank) u ∙ value_in-word_group P (generators P.rank) u
       ∙ sub-generators P.rank u h in
@@ -158,7 +167,8 @@ module _ (P : Presentation) (is : IsPresentation P) (big : 1 < P.prime) (m : ℕ
       (later-append P m (inv (inv w)) (inv w ++ u) (later-inv P is positive m (inv w) inverse_cut) (cut-later u h))
 
   -- normal words of the cut
-  same_exponents : IsConsistent P → (e f : List ℕ) → IsNormal P.prime m e → IsNormal P.prime m f → Joined C (normal_word e) (normal_word f) → e ≡ f
+  same_exponents : IsConsistent P → (e f : List ℕ) → IsNormal P.prime m e → IsNormal P.prime m f → Joined C (normal_word e) (normal_word f)
+      → e ≡ f
   same_exponents consistent e f h i c =
       let e_long : length e ≡ m = h.count in
       let f_long : length f ≡ m = i.count in

@@ -1,14 +1,18 @@
 -- Later words: words that are joined to products of generators from some place on. They are closed under products,
 -- inverses and conjugates by all words over the generators, and reach normal words of these generators alone.
-use Rattle.std.proofs.Common.{◌≡◌, ℕ, zero, suc, ◌+◌, ◌-◌, ◌<◌, ◌≤◌, ℤ, pos, negsuc, List, [], ◌∷◌, ◌++◌, get_or, length, drop, replicate, ap, sym, ◌∙◌, subst, arith, inl, inr}
+use Rattle.std.proofs.Common.{◌≡◌, ℕ, zero, suc, ◌+◌, ◌-◌, ◌<◌, ◌≤◌, ℤ, pos, negsuc, List, [], ◌∷◌, ◌++◌, get_or, length, drop, replicate}
+use Rattle.std.proofs.Common.{ap, sym, ◌∙◌, subst, arith, inl, inr}
 use Rattle.std.proofs.lemmas.List.{append-nil, get_or-replicate, length-drop}
 use Rattle.std.proofs.lemmas.Bool.{cases_lt}
 use Rattle.pq_base.specs.SignedWord.{inv, copies, conj, HasLetters}
 use Rattle.pq_base.specs.Table.{AllBelow}
-use Rattle.pq_base.specs.Presentation.{Presentation, IsPresentation, letter, word_from, power_side, commutator_side, power_word, commutator_word}
+use Rattle.pq_base.specs.Presentation.{Presentation, IsPresentation, letter, word_from, power_side, commutator_side, power_word}
+use Rattle.pq_base.specs.Presentation.{commutator_word}
 use Rattle.pq_base.specs.Joined.{Joined}
 use Rattle.pq_base.proofs.words.WordLaws.{conj-append}
-use Rattle.pq_base.proofs.words.JoinedLaws.{joined-refl, joined-from_equal, joined-sym, joined-trans, joined-append, joined-append_left, joined-inv, joined-conj, joined-solve_left, joined-solve_right, inv-append-joined, inv-append-append-joined, power-joined, letter-swap-joined}
+use Rattle.pq_base.proofs.words.JoinedLaws.{joined-refl, joined-from_equal, joined-sym, joined-trans, joined-append, joined-append_left}
+use Rattle.pq_base.proofs.words.JoinedLaws.{joined-inv, joined-conj, joined-solve_left, joined-solve_right, inv-append-joined}
+use Rattle.pq_base.proofs.words.JoinedLaws.{inv-append-append-joined, power-joined, letter-swap-joined}
 use Rattle.pq_base.proofs.words.WordGroup.{word_group}
 use Rattle.pq_base.proofs.groups.GroupIdentities.{conjugate_in-times}
 use Rattle.fp_rows.proofs.BelowLaws.{AllBelow-drop}
@@ -154,7 +158,8 @@ module _ (P : Presentation) (is : IsPresentation P) (positive : 0 < P.prime) whe
   conjugate_word m i b [] h = later-kept P m (joined-sym (inv-append-joined P (letter i))) (later-nil P m)
   conjugate_word m i b (k ∷ w) h =
       later-kept P m (joined-sym (conjugate_in-times (word_group P) (letter k) (letters w) (letter i)))
-      (later-append P m (conj (letter k) (letter i)) (conj (letters w) (letter i)) (conjugate_letter m k i h.0 h.1 b) (conjugate_word m i b w h.2))
+      (later-append P m (conj (letter k) (letter i)) (conj (letters w) (letter i)) (conjugate_letter m k i h.0 h.1 b)
+      (conjugate_word m i b w h.2))
 
   conjugate_by : (m : ℕ) (w : List ℕ) → AllFrom 0 P.rank w → (x : List ℤ) → IsLater P m x → IsLater P m (conj x (letters w))
   conjugate_by m [] h x l = subst (λ (y : List ℤ). IsLater P m y) (sym (append-nil x)) l
@@ -189,7 +194,8 @@ module _ (P : Presentation) (is : IsPresentation P) (big : 1 < P.prime) where
   abbrev Y : RowedPresentation
   Y = without_rows P
 
-  pushed_later : (m : ℕ) (w : List ℕ) → AllFrom m P.rank w → (s : State) → IsLaterState P m s → IsLaterState P m (push_word (plain Y P.rank 0) s w)
+  pushed_later : (m : ℕ) (w : List ℕ) → AllFrom m P.rank w → (s : State) → IsLaterState P m s
+      → IsLaterState P m (push_word (plain Y P.rank 0) s w)
   pushed_later m [] l s h = h
   pushed_later m (i ∷ w) l s h =
       let rowed = without_rows-rowed P is in
@@ -203,7 +209,8 @@ module _ (P : Presentation) (is : IsPresentation P) (big : 1 < P.prime) where
       })
 
   -- the word of a later state
-  later_state-word : (m : ℕ) (x : List ℤ) (s : State) → m ≤ P.rank → IsLaterState P m s → Joined P x (letters (spelled 0 s.exponents)) → ReachesLater P m x
+  later_state-word : (m : ℕ) (x : List ℤ) (s : State) → m ≤ P.rank → IsLaterState P m s → Joined P x (letters (spelled 0 s.exponents))
+      → ReachesLater P m x
   later_state-word m x s l h c =
       let count = h.state.exponents.count in
       let place : 0 + m ≡ m = omega arith in
@@ -231,6 +238,7 @@ module _ (P : Presentation) (is : IsPresentation P) (big : 1 < P.prime) where
       (letters (spelled 0 (push_word (plain Y P.rank 0) one h.word).exponents)) =
       push_word-joined Y rowed (omega arith) one h.word state (AllFrom-below m P.rank h.word h.within) in
       let whole : Joined P (letters h.word) (letters (spelled 0 (push_word (plain Y P.rank 0) one h.word).exponents)) =
-      subst (λ (u : List ℕ). Joined P (letters u ++ letters h.word) (letters (spelled 0 (push_word (plain Y P.rank 0) one h.word).exponents)))
+      subst (λ (u : List ℕ). Joined P (letters u ++ letters h.word)
+      (letters (spelled 0 (push_word (plain Y P.rank 0) one h.word).exponents)))
       (spelled-zeros 0 P.rank) pushed in
       later_state-word m x (push_word (plain Y P.rank 0) one h.word) l ends (joined-trans h.joined whole)

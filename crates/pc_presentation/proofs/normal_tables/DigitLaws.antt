@@ -32,7 +32,8 @@ number_of-below p (suc n) (x ∷ e) h =
     let l = h.below.0 in
     let positive : 0 < p = omega arith in
     let rest : IsNormal p n e = record { count = omega arith; below = h.below.1 } in
-    let quotient : (number_of p e * p + x) / p < p ^ n = subst (λ (m : ℕ). m < p ^ n) (sym (div-mul-add (number_of p e) p x l)) (number_of-below p n e rest) in
+    let quotient : (number_of p e * p + x) / p < p ^ n =
+    subst (λ (m : ℕ). m < p ^ n) (sym (div-mul-add (number_of p e) p x l)) (number_of-below p n e rest) in
     subst (λ (m : ℕ). number_of p e * p + x < m) (sym (pow-suc p n)) ((div-lt_iff_lt-mul positive).0 quotient)
 
 pub number_of-digits : (p n m : ℕ) → 0 < p → m < p ^ n → number_of p (digits p n m) ≡ m
@@ -50,7 +51,9 @@ number_of-zeros p (suc n) = ap (λ (x : ℕ). x * p + 0) (number_of-zeros p n) �
 
 pub digits-zero : (p n : ℕ) → digits p n 0 ≡ replicate n 0
 digits-zero p zero = refl
-digits-zero p (suc n) = ap (λ (x : ℕ). x ∷ digits p n (0 / p)) (zero-mod p) ∙ ap (λ (x : ℕ). 0 ∷ digits p n x) (zero-div p) ∙ ap (λ (u : List ℕ). 0 ∷ u) (digits-zero p n)
+digits-zero p (suc n) =
+    ap (λ (x : ℕ). x ∷ digits p n (0 / p)) (zero-mod p)
+    ∙ ap (λ (x : ℕ). 0 ∷ digits p n x) (zero-div p) ∙ ap (λ (u : List ℕ). 0 ∷ u) (digits-zero p n)
 
 pub power-positive : (p n : ℕ) → 0 < p → 0 < p ^ n
 power-positive p n l =

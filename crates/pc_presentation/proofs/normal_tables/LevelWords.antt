@@ -19,5 +19,6 @@ tables_have_the_class P h consistent k =
     record { word = normal_word e.0; letters = HasLetters-normal_word P.rank e.0 (omega arith); is = t.normal_words e.0 e.1 ∙ e.2 } in (
       table_class-generated P (normal_table P) t.group (generator_numbers P) t.generators t.relators generated k,
       λ trivial w s. (t.joined w [] (series-letters P k w s) tt).1
-          (trivial (value (normal_table P) (generator_numbers P) w) (level-value P (normal_table P) t.group (generator_numbers P) t.generators t.relators k w s)),
+          (trivial (value (normal_table P) (generator_numbers P) w)
+          (level-value P (normal_table P) t.group (generator_numbers P) t.generators t.relators k w s)),
     )

@@ -6,7 +6,8 @@ use Rattle.pq_base.specs.SignedWord.{inv}
 use Rattle.pq_base.specs.Presentation.{Presentation, IsPresentation, IsNormal, normal_word}
 use Rattle.pq_base.specs.Joined.{Joined, IsConsistent}
 use Rattle.pq_base.proofs.words.WordLaws.{word_from-zeros}
-use Rattle.pq_base.proofs.words.JoinedLaws.{joined-sym, joined-trans, joined-from_equal, joined-append_left, joined-append_right, joined-solve_right, inv-append-joined}
+use Rattle.pq_base.proofs.words.JoinedLaws.{joined-sym, joined-trans, joined-from_equal, joined-append_left, joined-append_right}
+use Rattle.pq_base.proofs.words.JoinedLaws.{joined-solve_right, inv-append-joined}
 use Rattle.pc_presentation.specs.Rowed.{without_rows}
 use Rattle.pc_presentation.specs.Collection.{State, IsState, spelled, letters, plain_push}
 use Rattle.pc_presentation.specs.NormalTable.{product_of}
@@ -37,7 +38,8 @@ module _ (P : Presentation) (h : IsPresentation P) (positive : 0 < P.prime) wher
       → Joined P (normal_word e ++ normal_word f) (normal_word (product_of P e f))
   product_of-joined e f n m =
       let c = m.count in
-      let j = push_word-joined (without_rows P) (without_rows-rowed P h) positive (bare e) (spelled 0 f) (bare-state e n) (AllBelow-spelled P.rank 0 f (omega arith)) in
+      let j = push_word-joined (without_rows P) (without_rows-rowed P h) positive (bare e) (spelled 0 f) (bare-state e n)
+      (AllBelow-spelled P.rank 0 f (omega arith)) in
       subst (λ (w : List ℤ). Joined P (w ++ normal_word f) (normal_word (product_of P e f))) (letters-spelled 0 e)
       (subst (λ (w : List ℤ). Joined P (letters (spelled 0 e) ++ w) (normal_word (product_of P e f))) (letters-spelled 0 f)
       (subst (λ (w : List ℤ). Joined P (letters (spelled 0 e) ++ letters (spelled 0 f)) w) (letters-spelled 0 (product_of P e f)) j))
@@ -58,7 +60,8 @@ module _ (P : Presentation) (h : IsPresentation P) (positive : 0 < P.prime) wher
 
   module _ (consistent : IsConsistent P) where
     -- exponents whose normal words are joined to one word
-    same : (e f : List ℕ) (w : List ℤ) → IsNormal P.prime P.rank e → IsNormal P.prime P.rank f → Joined P w (normal_word e) → Joined P w (normal_word f) → e ≡ f
+    same : (e f : List ℕ) (w : List ℤ) → IsNormal P.prime P.rank e → IsNormal P.prime P.rank f → Joined P w (normal_word e)
+        → Joined P w (normal_word f) → e ≡ f
     same e f w n m c d = consistent.unique e f n m (joined-trans (joined-sym c) d)
 
     pub product_of-assoc : (d e f : List ℕ) → IsNormal P.prime P.rank d → IsNormal P.prime P.rank e → IsNormal P.prime P.rank f
@@ -75,14 +78,16 @@ module _ (P : Presentation) (h : IsPresentation P) (positive : 0 < P.prime) wher
     pub product_of-zeros_left : (e : List ℕ) → IsNormal P.prime P.rank e → product_of P (replicate P.rank 0) e ≡ e
     product_of-zeros_left e n =
         let z = zeros-normal P.prime P.rank positive in
-        same (product_of P (replicate P.rank 0) e) e (normal_word (replicate P.rank 0) ++ normal_word e) (product_of-normal (replicate P.rank 0) e z) n
+        same (product_of P (replicate P.rank 0) e) e (normal_word (replicate P.rank 0) ++ normal_word e)
+        (product_of-normal (replicate P.rank 0) e z) n
         (product_of-joined (replicate P.rank 0) e z n)
         (joined-from_equal P (ap (λ (w : List ℤ). w ++ normal_word e) zeros-word))
 
     pub product_of-zeros_right : (e : List ℕ) → IsNormal P.prime P.rank e → product_of P e (replicate P.rank 0) ≡ e
     product_of-zeros_right e n =
         let z = zeros-normal P.prime P.rank positive in
-        same (product_of P e (replicate P.rank 0)) e (normal_word e ++ normal_word (replicate P.rank 0)) (product_of-normal e (replicate P.rank 0) n) n
+        same (product_of P e (replicate P.rank 0)) e (normal_word e ++ normal_word (replicate P.rank 0))
+        (product_of-normal e (replicate P.rank 0) n) n
         (product_of-joined e (replicate P.rank 0) n z)
         (joined-from_equal P (ap (λ (w : List ℤ). normal_word e ++ w) zeros-word ∙ append-nil (normal_word e)))
 
@@ -94,10 +99,12 @@ module _ (P : Presentation) (h : IsPresentation P) (positive : 0 < P.prime) wher
         subst (λ (w : List ℤ). Joined P (normal_word e ++ normal_word f) w) (ap normal_word q ∙ zeros-word) (product_of-joined e f n m) in
         joined-trans (joined-solve_right (normal_word e) (normal_word f) c) (joined-from_equal P (append-nil (inv (normal_word e))))
 
-    pub product_of-inverse_left : (e f : List ℕ) → IsNormal P.prime P.rank e → IsNormal P.prime P.rank f → product_of P e f ≡ replicate P.rank 0
+    pub product_of-inverse_left : (e f : List ℕ) → IsNormal P.prime P.rank e → IsNormal P.prime P.rank f
+        → product_of P e f ≡ replicate P.rank 0
         → product_of P f e ≡ replicate P.rank 0
     product_of-inverse_left e f n m q =
-        same (product_of P f e) (replicate P.rank 0) (normal_word f ++ normal_word e) (product_of-normal f e m) (zeros-normal P.prime P.rank positive)
+        same (product_of P f e) (replicate P.rank 0) (normal_word f ++ normal_word e) (product_of-normal f e m)
+        (zeros-normal P.prime P.rank positive)
         (product_of-joined f e m n)
         (joined-trans (joined-append_right (normal_word e) (inverse-joined e f n m q))
         (joined-trans (inv-append-joined P (normal_word e)) (joined-from_equal P (sym zeros-word))))

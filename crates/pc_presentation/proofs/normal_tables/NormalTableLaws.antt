@@ -1,6 +1,7 @@
 -- The normal words of a consistent presentation form a group table, in which words are joined exactly where their values
 -- are equal: a word is joined to the normal word of the digits of its value.
-use Rattle.std.proofs.Common.{◌≡◌, ℕ, zero, suc, ◌+◌, ◌^◌, ◌<◌, ℤ, pos, negsuc, List, [], ◌∷◌, ◌++◌, get_or, length, replicate, refl, ap, sym, ◌∙◌, subst, arith}
+use Rattle.std.proofs.Common.{◌≡◌, ℕ, zero, suc, ◌+◌, ◌^◌, ◌<◌, ℤ, pos, negsuc, List, [], ◌∷◌, ◌++◌, get_or, length, replicate, refl, ap}
+use Rattle.std.proofs.Common.{sym, ◌∙◌, subst, arith}
 use Rattle.std.proofs.lemmas.List.{append-nil}
 use Rattle.pq_base.specs.SignedWord.{inv, copies, HasLetters}
 use Rattle.pq_base.specs.Table.{Table, IsGroup, AllBelow, times, inverse, value, element_of}
@@ -10,11 +11,15 @@ use Rattle.pq_base.proofs.words.LetterLaws.{HasLetters-relator, HasLetters-norma
 use Rattle.pq_base.proofs.words.WordLaws.{word_from-zeros}
 use Rattle.pq_base.proofs.words.JoinedLaws.{joined-sym, joined-trans, joined-from_equal, joined-append, relator-joined}
 use Rattle.pq_base.proofs.tables.TableLaws.{times-inverse, inverse-below, get_or-below, element-below, value-below}
-use Rattle.pc_presentation.specs.NormalTable.{list_from, single, number_of, digits, product_of, normal_table, generator_numbers, NormalWordsAreATable}
+use Rattle.pc_presentation.specs.NormalTable.{list_from, single, number_of, digits, product_of, normal_table, generator_numbers}
+use Rattle.pc_presentation.specs.NormalTable.{NormalWordsAreATable}
 use Rattle.pc_presentation.specs.CollectionLaws.{ConsistentPresentationsHaveTables}
 use Rattle.pc_presentation.proofs.rows.SingleRows.{length-list_from, get_or-list_from, single-normal}
-use Rattle.pc_presentation.proofs.normal_tables.DigitLaws.{digits-normal, digits-number_of, number_of-below, number_of-digits, number_of-zeros, digits-zero, power-positive}
-use Rattle.pc_presentation.proofs.normal_tables.NormalProducts.{product_of-normal, product_of-joined, inverse_exponents, zeros-word, product_of-assoc, product_of-zeros_left, product_of-zeros_right, inverse-joined, product_of-inverse_left}
+use Rattle.pc_presentation.proofs.normal_tables.DigitLaws.{digits-normal, digits-number_of, number_of-below, number_of-digits}
+use Rattle.pc_presentation.proofs.normal_tables.DigitLaws.{number_of-zeros, digits-zero, power-positive}
+use Rattle.pc_presentation.proofs.normal_tables.NormalProducts.{product_of-normal, product_of-joined, inverse_exponents, zeros-word}
+use Rattle.pc_presentation.proofs.normal_tables.NormalProducts.{product_of-assoc, product_of-zeros_left, product_of-zeros_right}
+use Rattle.pc_presentation.proofs.normal_tables.NormalProducts.{inverse-joined, product_of-inverse_left}
 
 -- the word of one exponent
 word-single : (n k i c : ℕ) → i < n → word_from k (single n i c) ≡ copies (letter (k + i)) c
@@ -41,21 +46,28 @@ size-normal_table P = refl
 row-count : (P : Presentation) → length (normal_table P).rows ≡ size_of P
 unfolding normal_table
 row-count P =
-    length-list_from (λ (a : ℕ). list_from (λ (b : ℕ). number_of P.prime (product_of P (digits P.prime P.rank a) (digits P.prime P.rank b))) 0 (P.prime ^ P.rank)) 0 (P.prime ^ P.rank)
+    length-list_from (λ (a : ℕ).
+    list_from (λ (b : ℕ). number_of P.prime (product_of P (digits P.prime P.rank a) (digits P.prime P.rank b))) 0 (P.prime ^ P.rank)) 0
+    (P.prime ^ P.rank)
 
 row-at : (P : Presentation) (a : ℕ) → a < size_of P
-    → get_or (normal_table P).rows a [] ≡ list_from (λ (b : ℕ). number_of P.prime (product_of P (digits P.prime P.rank a) (digits P.prime P.rank b))) 0 (size_of P)
+    → get_or (normal_table P).rows a []
+    ≡ list_from (λ (b : ℕ). number_of P.prime (product_of P (digits P.prime P.rank a) (digits P.prime P.rank b))) 0 (size_of P)
 unfolding normal_table
 row-at P a l =
-    get_or-list_from (λ (a : ℕ). list_from (λ (b : ℕ). number_of P.prime (product_of P (digits P.prime P.rank a) (digits P.prime P.rank b))) 0 (P.prime ^ P.rank)) 0 (P.prime ^ P.rank) a [] l
-    ∙ ap (λ (z : ℕ). list_from (λ (b : ℕ). number_of P.prime (product_of P (digits P.prime P.rank z) (digits P.prime P.rank b))) 0 (P.prime ^ P.rank)) (let e : 0 + a ≡ a = omega arith in e)
+    get_or-list_from (λ (a : ℕ).
+    list_from (λ (b : ℕ). number_of P.prime (product_of P (digits P.prime P.rank a) (digits P.prime P.rank b))) 0 (P.prime ^ P.rank)) 0
+    (P.prime ^ P.rank) a [] l
+    ∙ ap (λ (z : ℕ). list_from (λ (b : ℕ). number_of P.prime (product_of P (digits P.prime P.rank z) (digits P.prime P.rank b))) 0
+    (P.prime ^ P.rank)) (let e : 0 + a ≡ a = omega arith in e)
 
 times-normal_table : (P : Presentation) (a b : ℕ) → a < size_of P → b < size_of P
     → times (normal_table P) a b ≡ number_of P.prime (product_of P (digits P.prime P.rank a) (digits P.prime P.rank b))
 times-normal_table P a b l m =
     ap (λ (r : List ℕ). get_or r b 0) (row-at P a l)
     ∙ get_or-list_from (λ (b : ℕ). number_of P.prime (product_of P (digits P.prime P.rank a) (digits P.prime P.rank b))) 0 (size_of P) b 0 m
-    ∙ ap (λ (z : ℕ). number_of P.prime (product_of P (digits P.prime P.rank a) (digits P.prime P.rank z))) (let e : 0 + b ≡ b = omega arith in e)
+    ∙ ap (λ (z : ℕ). number_of P.prime (product_of P (digits P.prime P.rank a) (digits P.prime P.rank z)))
+    (let e : 0 + b ≡ b = omega arith in e)
 
 module _ (P : Presentation) (h : IsPresentation P) (big : 1 < P.prime) (consistent : IsConsistent P) where
   abbrev T : Table
@@ -75,15 +87,19 @@ module _ (P : Presentation) (h : IsPresentation P) (big : 1 < P.prime) (consiste
 
   -- the digits of a product
   digits-times : (a b : ℕ) → a < size_of P → b < size_of P → d (times T a b) ≡ product_of P (d a) (d b)
-  digits-times a b l m = ap d (times-normal_table P a b l m) ∙ digits-number_of P.prime P.rank (product_of P (d a) (d b)) (product_of-normal P h positive (d a) (d b) (dn a))
+  digits-times a b l m =
+      ap d (times-normal_table P a b l m)
+      ∙ digits-number_of P.prime P.rank (product_of P (d a) (d b)) (product_of-normal P h positive (d a) (d b) (dn a))
 
   times-below : (a b : ℕ) → a < size_of P → b < size_of P → times T a b < size_of P
   times-below a b l m =
-      subst (λ (x : ℕ). x < size_of P) (sym (times-normal_table P a b l m)) (below (product_of P (d a) (d b)) (product_of-normal P h positive (d a) (d b) (dn a)))
+      subst (λ (x : ℕ). x < size_of P) (sym (times-normal_table P a b l m))
+      (below (product_of P (d a) (d b)) (product_of-normal P h positive (d a) (d b) (dn a)))
 
   -- numbers with the same digits
   same_digits : (a b : ℕ) → a < size_of P → b < size_of P → d a ≡ d b → a ≡ b
-  same_digits a b l m e = sym (number_of-digits P.prime P.rank a positive l) ∙ ap (number_of P.prime) e ∙ number_of-digits P.prime P.rank b positive m
+  same_digits a b l m e =
+      sym (number_of-digits P.prime P.rank a positive l) ∙ ap (number_of P.prime) e ∙ number_of-digits P.prime P.rank b positive m
 
   zero-below : 0 < size_of P
   zero-below = power-positive P.prime P.rank positive
@@ -100,12 +116,14 @@ module _ (P : Presentation) (h : IsPresentation P) (big : 1 < P.prime) (consiste
   table-neutral_left : (a : ℕ) → a < size_of P → times T 0 a ≡ a
   table-neutral_left a l =
       same_digits (times T 0 a) a (times-below 0 a zero-below l) l
-      (digits-times 0 a zero-below l ∙ ap (λ (e : List ℕ). product_of P e (d a)) (digits-zero P.prime P.rank) ∙ product_of-zeros_left P h positive consistent (d a) (dn a))
+      (digits-times 0 a zero-below l
+      ∙ ap (λ (e : List ℕ). product_of P e (d a)) (digits-zero P.prime P.rank) ∙ product_of-zeros_left P h positive consistent (d a) (dn a))
 
   table-neutral_right : (a : ℕ) → a < size_of P → times T a 0 ≡ a
   table-neutral_right a l =
       same_digits (times T a 0) a (times-below a 0 l zero-below) l
-      (digits-times a 0 l zero-below ∙ ap (product_of P (d a)) (digits-zero P.prime P.rank) ∙ product_of-zeros_right P h positive consistent (d a) (dn a))
+      (digits-times a 0 l zero-below
+      ∙ ap (product_of P (d a)) (digits-zero P.prime P.rank) ∙ product_of-zeros_right P h positive consistent (d a) (dn a))
 
   -- products of exponents as products of numbers
   times-number_of : (e f : List ℕ) → IsNormal P.prime P.rank e → IsNormal P.prime P.rank f
@@ -137,7 +155,8 @@ module _ (P : Presentation) (h : IsPresentation P) (big : 1 < P.prime) (consiste
         nonempty = zero-below;
         row_count = row-count P;
         widths = λ a l. ap length (row-at P a l)
-            ∙ length-list_from (λ (b : ℕ). number_of P.prime (product_of P (digits P.prime P.rank a) (digits P.prime P.rank b))) 0 (size_of P);
+            ∙ length-list_from (λ (b : ℕ). number_of P.prime (product_of P (digits P.prime P.rank a) (digits P.prime P.rank b))) 0
+            (size_of P);
         closed = times-below;
         associative = table-associative;
         neutral_left = table-neutral_left;
@@ -203,7 +222,8 @@ module _ (P : Presentation) (h : IsPresentation P) (big : 1 < P.prime) (consiste
       let x : ℕ = element_of T gens k in
       let y : ℕ = value T gens w in
       let xs : element_of T gens k < size_of P = in_size x (element-below T is_group gens gens-below k) in
-      let c : Joined P (normal_word (d (element_of T gens k)) ++ normal_word (d (value T gens w))) ((k ∷ []) ++ w) = joined-append (letter-word k w l) (value-word w l.1) in
+      let c : Joined P (normal_word (d (element_of T gens k)) ++ normal_word (d (value T gens w))) ((k ∷ []) ++ w) =
+      joined-append (letter-word k w l) (value-word w l.1) in
       joined-trans (joined-from_equal P (ap normal_word (digits-times x y xs (value-in_size w))))
       (joined-trans (joined-sym (product_of-joined P h positive (d x) (d y) (dn x) (dn y))) c)
 
@@ -229,7 +249,12 @@ module _ (P : Presentation) (h : IsPresentation P) (big : 1 < P.prime) (consiste
   normal_words_are_a_table = record {
     group = is_group;
     size = size-normal_table P;
-    elements = λ a l. (digits P.prime P.rank a, (digits-normal P.prime P.rank a positive), number_of-digits P.prime P.rank a positive (in_size a l));
+    elements =
+        λ a l. (
+          digits P.prime P.rank a,
+          (digits-normal P.prime P.rank a positive),
+          number_of-digits P.prime P.rank a positive (in_size a l),
+        );
     distinct = λ e f n m q. sym (digits-number_of P.prime P.rank e n) ∙ ap (digits P.prime P.rank) q ∙ digits-number_of P.prime P.rank f m;
     products = times-number_of;
     generators = gens-below;

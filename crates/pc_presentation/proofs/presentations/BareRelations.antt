@@ -1,6 +1,7 @@
 -- Bare relations, those with an empty right side and no tail: all are bare where all words are empty, and one relation more
 -- leaves the others what they were. The bare commutators are those of generators that commute.
-use Rattle.std.proofs.Common.{◌≡◌, ◌≢◌, ℕ, zero, suc, ◌-◌, ◌<◌, ◌≤◌, Option, None, Some, List, [], get_or, length, replicate, refl, ap, sym, ◌∙◌, subst, arith}
+use Rattle.std.proofs.Common.{◌≡◌, ◌≢◌, ℕ, zero, suc, ◌-◌, ◌<◌, ◌≤◌, Option, None, Some, List, [], get_or, length, replicate, refl, ap, sym}
+use Rattle.std.proofs.Common.{◌∙◌, subst, arith}
 use Rattle.pq_base.specs.Presentation.{commutator_side}
 use Rattle.pc_presentation.specs.declared.syllable.Syllable.{Syllable}
 use Rattle.pc_presentation.specs.declared.relation.Relation.{Relation}
@@ -8,7 +9,8 @@ use Rattle.pc_presentation.specs.declared.relation.Relation.TheVariants.{Commuta
 use Rattle.pc_presentation.specs.Syllable.{spread, syllables_of, AreSyllables}
 use Rattle.pc_presentation.specs.Relation.{IsRelation, IsTail, side_start, PerRelation, entry_at}
 use Rattle.pc_presentation.specs.Store.{Entry, blank}
-use Rattle.pc_presentation.specs.Pcp.{TailedPresentation, IsTailedPresentation, IsBareRelation, HasShape, sides_of, right_side, tail_of, unit_row, row_of, tail_rows, with_relation, plain_presentation}
+use Rattle.pc_presentation.specs.Pcp.{TailedPresentation, IsTailedPresentation, IsBareRelation, HasShape, sides_of, right_side, tail_of}
+use Rattle.pc_presentation.specs.Pcp.{unit_row, row_of, tail_rows, with_relation, plain_presentation}
 use Rattle.pc_presentation.specs.Rowed.{commutator_row}
 use Rattle.pc_presentation.specs.Tailed.{rowed_presentation}
 use Rattle.pc_presentation.specs.Commuting.{IsBare}
@@ -19,7 +21,8 @@ use Rattle.pc_presentation.proofs.presentations.PlainLaws.{spread-nil, plain-tai
 use Rattle.pc_presentation.proofs.normal_tables.EntryLaws.{entry_at-with_entry_same, entry_at-with_entry_other}
 use Rattle.pc_presentation.proofs.rows.TailRowLaws.{entry_at-tail_rows}
 
-pub IsBareRelation-plain : (p tails : ℕ) (weights : List ℕ) (r : Relation) → IsRelation (length weights) r → IsBareRelation (plain_presentation p weights tails) r
+pub IsBareRelation-plain : (p tails : ℕ) (weights : List ℕ) (r : Relation) → IsRelation (length weights) r
+    → IsBareRelation (plain_presentation p weights tails) r
 IsBareRelation-plain p tails weights r h =
     let n : ℕ = length weights in
     let none : List Entry = replicate 0 blank in
@@ -49,27 +52,33 @@ module _ (T : TailedPresentation) (is : IsTailedPresentation T) (r : Relation) (
   tail_here : tail_of one_more r ≡ tail
   tail_here = entry_at-with_entry_same T.presentation.rank T.tail_table None is.tail_shape r tail h
 
-  side_elsewhere : (q : Relation) → IsRelation T.presentation.rank q → q ≢ r → right_side one_more.presentation q ≡ right_side T.presentation q
+  side_elsewhere : (q : Relation) → IsRelation T.presentation.rank q → q ≢ r
+      → right_side one_more.presentation q ≡ right_side T.presentation q
   side_elsewhere q l ne = entry_at-with_entry_other T.presentation.rank (sides_of T.presentation) [] shape r side h q l ne
 
   tail_elsewhere : (q : Relation) → IsRelation T.presentation.rank q → q ≢ r → tail_of one_more q ≡ tail_of T q
   tail_elsewhere q l ne = entry_at-with_entry_other T.presentation.rank T.tail_table None is.tail_shape r tail h q l ne
 
   -- the other relations
-  pub IsBareRelation-with_other : (q : Relation) → IsRelation T.presentation.rank q → q ≢ r → IsBareRelation T q → IsBareRelation (with_relation T r word tail) q
+  pub IsBareRelation-with_other : (q : Relation) → IsRelation T.presentation.rank q → q ≢ r → IsBareRelation T q
+      → IsBareRelation (with_relation T r word tail) q
   IsBareRelation-with_other q l ne b = record { side = side_elsewhere q l ne ∙ b.side; tail = tail_elsewhere q l ne ∙ b.tail }
 
-  pub IsBareRelation-without_other : (q : Relation) → IsRelation T.presentation.rank q → q ≢ r → IsBareRelation (with_relation T r word tail) q → IsBareRelation T q
-  IsBareRelation-without_other q l ne b = record { side = sym (side_elsewhere q l ne) ∙ b.side; tail = sym (tail_elsewhere q l ne) ∙ b.tail }
+  pub IsBareRelation-without_other : (q : Relation) → IsRelation T.presentation.rank q → q ≢ r
+      → IsBareRelation (with_relation T r word tail) q → IsBareRelation T q
+  IsBareRelation-without_other q l ne b =
+      record { side = sym (side_elsewhere q l ne) ∙ b.side; tail = sym (tail_elsewhere q l ne) ∙ b.tail }
 
   -- the relation itself
   pub IsBareRelation-with_nothing : word ≡ [] → tail ≡ None → IsBareRelation (with_relation T r word tail) r
   IsBareRelation-with_nothing e f = record {
-    side = side_here ∙ ap (spread (T.presentation.rank - side_start r) (side_start r)) e ∙ spread-nil (T.presentation.rank - side_start r) (side_start r);
+    side = side_here ∙ ap (spread (T.presentation.rank - side_start r) (side_start r)) e
+        ∙ spread-nil (T.presentation.rank - side_start r) (side_start r);
     tail = tail_here ∙ f;
   }
 
-  pub nothing-IsBareRelation : AreSyllables T.presentation.prime T.presentation.rank (side_start r) word → IsBareRelation (with_relation T r word tail) r
+  pub nothing-IsBareRelation : AreSyllables T.presentation.prime T.presentation.rank (side_start r) word
+      → IsBareRelation (with_relation T r word tail) r
       → (word ≡ []) × (tail ≡ None)
   nothing-IsBareRelation a b =
       let n : ℕ = T.presentation.rank in
@@ -114,5 +123,6 @@ module _ (T : TailedPresentation) (is : IsTailedPresentation T) (l k : ℕ) (h :
   pub IsBareRelation-bare : IsBare (rowed_presentation T) l k → IsBareRelation T (Commutator (suc l) (suc k))
   IsBareRelation-bare b = record {
     side = sym side_at ∙ b.side;
-    tail = row_of-zeros T.tails (tail_of T (Commutator (suc l) (suc k))) (is.tails (Commutator (suc l) (suc k)) relation) (sym row_at ∙ b.row);
+    tail = row_of-zeros T.tails (tail_of T (Commutator (suc l) (suc k))) (is.tails (Commutator (suc l) (suc k)) relation)
+        (sym row_at ∙ b.row);
   }

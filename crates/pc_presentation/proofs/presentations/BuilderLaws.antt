@@ -22,7 +22,8 @@ pub draft-empty : (p tails m : ℕ) (weights : List ℕ) (T : TailedPresentation
 draft-empty p tails m weights T flags e f =
     ap (λ (t : TailedPresentation). draft t flags) e
     ∙ ap (draft (plain_presentation p weights tails)) f
-    ∙ ap (λ (g : PerRelation Bool). let d : Draft = record { built = plain_presentation p weights tails; given = g } in d) (no_flags (length weights) m)
+    ∙ ap (λ (g : PerRelation Bool). let d : Draft = record { built = plain_presentation p weights tails; given = g } in d)
+    (no_flags (length weights) m)
 
 pub draft-extended : (T U : TailedPresentation) (flags : List Bool) (r : Relation) (word : List Syllable) (tail : Option ℕ) (k : ℕ)
     → length flags ≡ relation_count T.presentation.rank → IsRelation T.presentation.rank r → k ≡ relation_number T.presentation.rank r
@@ -37,7 +38,8 @@ pub OthersAreBare-empty : (p tails : ℕ) (weights : List ℕ) → OthersAreBare
 OthersAreBare-empty p tails weights = λ r h ne. IsBareRelation-plain p tails weights r h
 
 pub OthersAreBare-extended : (D : Draft) (r : Relation) (word : List Syllable) (tail : Option ℕ) → IsTailedPresentation D.built
-    → HasShape D.built.presentation.rank D.given → IsRelation D.built.presentation.rank r → OthersAreBare D → OthersAreBare (extended D r word tail)
+    → HasShape D.built.presentation.rank D.given → IsRelation D.built.presentation.rank r → OthersAreBare D
+    → OthersAreBare (extended D r word tail)
 OthersAreBare-extended D r word tail is shape h bare = λ q l ne.
     let n : ℕ = D.built.presentation.rank in
     elim (cases_eq (relation_number n q) (relation_number n r)) [

@@ -1,5 +1,6 @@
 -- The numbers from which on generators commute: what they are where all words are empty, and what one relation more makes of them.
-use Rattle.std.proofs.Common.{◌≡◌, ◌≢◌, ◌↔◌, ℕ, zero, suc, ◌+◌, ◌-◌, ◌<◌, ◌≤◌, max, Option, None, Some, List, [], ◌∷◌, get_or, length, replicate, refl, ap, sym, ◌∙◌, subst, arith, inl, inr}
+use Rattle.std.proofs.Common.{◌≡◌, ◌≢◌, ◌↔◌, ℕ, zero, suc, ◌+◌, ◌-◌, ◌<◌, ◌≤◌, max, Option, None, Some, List, [], ◌∷◌, get_or, length}
+use Rattle.std.proofs.Common.{replicate, refl, ap, sym, ◌∙◌, subst, arith, inl, inr}
 use Rattle.std.proofs.lemmas.Bool.{cases_eq, cases_lt}
 use Rattle.pq_base.specs.Limits.{max_rank}
 use Rattle.pq_base.specs.Prime.{IsOffered}
@@ -9,7 +10,8 @@ use Rattle.pc_presentation.specs.declared.relation.Relation.TheVariants.{Power, 
 use Rattle.pc_presentation.specs.Syllable.{AreSyllables}
 use Rattle.pc_presentation.specs.Relation.{IsRelation, IsTail, side_start, relation_number, relation_count, tabulate}
 use Rattle.pc_presentation.specs.Store.{Entry, blank, AreEntries}
-use Rattle.pc_presentation.specs.Pcp.{TailedPresentation, IsTailedPresentation, IsBareRelation, with_relation, plain_presentation, tailed_presentation}
+use Rattle.pc_presentation.specs.Pcp.{TailedPresentation, IsTailedPresentation, IsBareRelation, with_relation, plain_presentation}
+use Rattle.pc_presentation.specs.Pcp.{tailed_presentation}
 use Rattle.pc_presentation.specs.Tailed.{rowed_presentation}
 use Rattle.pc_presentation.specs.Commuting.{IsBare, IsFirstCommuting}
 use Rattle.pc_presentation.specs.CommutingNumbers.{AreCommutingNumbers, raised_to, numbers_with}
@@ -19,8 +21,11 @@ use Rattle.pc_presentation.proofs.presentations.PcpLaws.{tailed_presentation-is}
 use Rattle.pc_presentation.proofs.presentations.PlainLaws.{AreEntries-plain, plain-made}
 use Rattle.pc_presentation.proofs.presentations.PutLaws.{put_entries, put_entries-are, with_relation-tailed}
 use Rattle.pc_presentation.proofs.presentations.RaisedNumbers.{length-raised_to, get_or-raised_to, get_or-raised_to_later}
-use Rattle.pc_presentation.proofs.presentations.BareRelations.{IsBareRelation-plain, IsBareRelation-with_other, IsBareRelation-without_other, IsBareRelation-with_nothing, nothing-IsBareRelation, IsBare-relation, IsBareRelation-bare}
-use Rattle.pc_presentation.proofs.presentations.FirstCommuting.{IsFirstCommuting-plain, IsFirstCommuting-same, IsFirstCommuting-before, IsFirstCommuting-behind}
+use Rattle.pc_presentation.proofs.presentations.BareRelations.{IsBareRelation-plain, IsBareRelation-with_other}
+use Rattle.pc_presentation.proofs.presentations.BareRelations.{IsBareRelation-without_other, IsBareRelation-with_nothing}
+use Rattle.pc_presentation.proofs.presentations.BareRelations.{nothing-IsBareRelation, IsBare-relation, IsBareRelation-bare}
+use Rattle.pc_presentation.proofs.presentations.FirstCommuting.{IsFirstCommuting-plain, IsFirstCommuting-same, IsFirstCommuting-before}
+use Rattle.pc_presentation.proofs.presentations.FirstCommuting.{IsFirstCommuting-behind}
 
 pub AreCommutingNumbers-plain : (p tails : ℕ) (weights : List ℕ) → IsTailedPresentation (plain_presentation p weights tails)
     → AreCommutingNumbers (plain_presentation p weights tails) (tabulate (length weights) (λ m. m + 2))
@@ -33,12 +38,15 @@ AreCommutingNumbers-plain p tails weights is =
           let next : suc m ≡ (m + 2) - 1 = omega arith in
           subst (IsFirstCommuting (rowed_presentation T) m) (next ∙ ap (λ (z : ℕ). z - 1) (sym (get_or-tabulate n (λ k. k + 2) m 0 h)))
           (IsFirstCommuting-plain (rowed_presentation T)
-          (λ l k a b. IsBare-relation T is l k a b (IsBareRelation-plain p tails weights (Commutator (suc l) (suc k)) (omega arith, omega arith, omega arith))) m h);
+          (λ l k a b. IsBare-relation T is l k a b
+          (IsBareRelation-plain p tails weights (Commutator (suc l) (suc k)) (omega arith, omega arith, omega arith))) m h);
     }
 
 -- of what is kept of it
-pub AreCommutingNumbers-blank_entries : (p tails m : ℕ) (weights copied : List ℕ) (entries : List Entry) (numbers : List ℕ) → IsOffered p → length weights ≤ max_rank
-    → copied ≡ weights → m ≡ relation_count (length weights) → entries ≡ replicate m blank → numbers ≡ tabulate (length weights) (λ k. k + 2)
+pub AreCommutingNumbers-blank_entries : (p tails m : ℕ) (weights copied : List ℕ) (entries : List Entry) (numbers : List ℕ) → IsOffered p
+    → length weights ≤ max_rank
+    → copied ≡ weights → m ≡ relation_count (length weights) → entries ≡ replicate m blank
+    → numbers ≡ tabulate (length weights) (λ k. k + 2)
     → AreCommutingNumbers (tailed_presentation p copied tails entries) numbers
 AreCommutingNumbers-blank_entries p tails m weights copied entries numbers offered limit same count blanks next =
     let plain : IsTailedPresentation (tailed_presentation p weights tails entries) =
@@ -72,7 +80,8 @@ module _ (T : TailedPresentation) (is : IsTailedPresentation T) (r : Relation) (
         λ f. IsBare-relation one_more more l k a b
             (IsBareRelation-with_other T is r word tail h (Commutator (suc l) (suc k)) q ne (IsBareRelation-bare T is l k a b f)),
         λ f. IsBare-relation T is l k a b
-            (IsBareRelation-without_other T is r word tail h (Commutator (suc l) (suc k)) q ne (IsBareRelation-bare one_more more l k a b f)),
+            (IsBareRelation-without_other T is r word tail h (Commutator (suc l) (suc k)) q ne
+            (IsBareRelation-bare one_more more l k a b f)),
       )
 
   same_everywhere : IsBareRelation T r → IsBareRelation one_more r → (l k : ℕ) → l < T.presentation.rank → k < l
@@ -90,21 +99,25 @@ module _ (T : TailedPresentation) (is : IsTailedPresentation T) (r : Relation) (
         | inr ne ↦ same_elsewhere l k a b (λ (e : Commutator (suc l) (suc k) ≡ r). ne (ap (relation_number n) e))
       ]
 
-  same_numbers : ((l k : ℕ) → l < T.presentation.rank → k < l → IsBare (rowed_presentation T) l k ↔ IsBare (rowed_presentation one_more) l k)
+  same_numbers : ((l k : ℕ) → l < T.presentation.rank → k < l
+      → IsBare (rowed_presentation T) l k ↔ IsBare (rowed_presentation one_more) l k)
       → (numbers : List ℕ) → AreCommutingNumbers T numbers → AreCommutingNumbers one_more numbers
   same_numbers same numbers old = record {
     count = old.count;
-    first = λ m b. IsFirstCommuting-same (rowed_presentation T) (rowed_presentation one_more) refl same m (get_or numbers m 0 - 1) (old.first m b);
+    first = λ m b. IsFirstCommuting-same (rowed_presentation T) (rowed_presentation one_more) refl same m (get_or numbers m 0 - 1)
+        (old.first m b);
   }
 
 -- the commutator of the generators at places j > i is bare no more
 module _ (T : TailedPresentation) (is : IsTailedPresentation T) (j i : ℕ) (word : List Syllable) (tail : Option ℕ)
-    (h : IsRelation T.presentation.rank (Commutator (suc j) (suc i))) (more : IsTailedPresentation (with_relation T (Commutator (suc j) (suc i)) word tail))
+    (h : IsRelation T.presentation.rank (Commutator (suc j) (suc i)))
+    (more : IsTailedPresentation (with_relation T (Commutator (suc j) (suc i)) word tail))
     (lost : ¬ IsBareRelation (with_relation T (Commutator (suc j) (suc i)) word tail) (Commutator (suc j) (suc i))) where
   abbrev with_commutator : TailedPresentation
   with_commutator = with_relation T (Commutator (suc j) (suc i)) word tail
 
-  others : (l k : ℕ) → l < T.presentation.rank → k < l → ¬ ((l ≡ j) × (k ≡ i)) → IsBare (rowed_presentation T) l k ↔ IsBare (rowed_presentation with_commutator) l k
+  others : (l k : ℕ) → l < T.presentation.rank → k < l → ¬ ((l ≡ j) × (k ≡ i))
+      → IsBare (rowed_presentation T) l k ↔ IsBare (rowed_presentation with_commutator) l k
   others l k a b ne = same_elsewhere T is (Commutator (suc j) (suc i)) word tail h more l k a b
       (λ (e : Commutator (suc l) (suc k) ≡ Commutator (suc j) (suc i)).
       let first : suc l ≡ suc j = first_number (suc l) (suc k) (suc j) (suc i) e in
@@ -124,26 +137,31 @@ module _ (T : TailedPresentation) (is : IsTailedPresentation T) (j i : ℕ) (wor
         | inl behind ↦
             subst (λ (x : ℕ). IsFirstCommuting (rowed_presentation with_commutator) m (x - 1))
             (sym (get_or-raised_to_later (suc (suc j)) (suc i) m numbers (omega arith)))
-            (IsFirstCommuting-behind (rowed_presentation T) (rowed_presentation with_commutator) refl j i inside order no_longer_bare others m
+            (IsFirstCommuting-behind (rowed_presentation T) (rowed_presentation with_commutator) refl j i inside order no_longer_bare others
+            m
             (get_or numbers m 0 - 1) behind (old.first m b))
         | inr before ↦
             let after = (old.first m b).after in
             let highest : max (suc j) (get_or numbers m 0 - 1) ≡ max (suc (suc j)) (get_or numbers m 0) - 1 = omega arith in
             subst (IsFirstCommuting (rowed_presentation with_commutator) m)
             (highest ∙ ap (λ (x : ℕ). x - 1) (sym (get_or-raised_to (suc (suc j)) (suc i) m numbers (omega arith) (omega arith))))
-            (IsFirstCommuting-before (rowed_presentation T) (rowed_presentation with_commutator) refl j i inside order no_longer_bare others m
+            (IsFirstCommuting-before (rowed_presentation T) (rowed_presentation with_commutator) refl j i inside order no_longer_bare others
+            m
             (get_or numbers m 0 - 1) before (old.first m b))
       ]
 
-  raised_numbers : (numbers : List ℕ) → AreCommutingNumbers T numbers → AreCommutingNumbers with_commutator (raised_to (suc (suc j)) (suc i) numbers)
+  raised_numbers : (numbers : List ℕ) → AreCommutingNumbers T numbers
+      → AreCommutingNumbers with_commutator (raised_to (suc (suc j)) (suc i) numbers)
   raised_numbers numbers old = record {
     count = length-raised_to (suc (suc j)) (suc i) numbers ∙ old.count;
     first = raised_first numbers old;
   }
 
 -- one relation more, which was bare before
-pub AreCommutingNumbers-with_relation : (T : TailedPresentation) (is : IsTailedPresentation T) (r : Relation) (word : List Syllable) (tail : Option ℕ)
-    (numbers : List ℕ) → IsRelation T.presentation.rank r → AreSyllables T.presentation.prime T.presentation.rank (side_start r) word → IsBareRelation T r
+pub AreCommutingNumbers-with_relation : (T : TailedPresentation) (is : IsTailedPresentation T) (r : Relation) (word : List Syllable)
+    (tail : Option ℕ)
+    (numbers : List ℕ) → IsRelation T.presentation.rank r → AreSyllables T.presentation.prime T.presentation.rank (side_start r) word
+    → IsBareRelation T r
     → IsTailedPresentation (with_relation T r word tail) → AreCommutingNumbers T numbers
     → AreCommutingNumbers (with_relation T r word tail) (numbers_with r word tail numbers)
 AreCommutingNumbers-with_relation T is (Power i) word tail numbers h a bare more old =
@@ -163,18 +181,23 @@ AreCommutingNumbers-with_relation T is (Commutator (suc j) (suc i)) (s ∷ w) ta
     (λ b. let e : s ∷ w ≡ [] = (nothing-IsBareRelation T is (Commutator (suc j) (suc i)) (s ∷ w) tail h a b).0 in cc) numbers old
 
 -- of what is kept
-pub AreCommutingNumbers-put_entries : (p tails : ℕ) (weights : List ℕ) (entries : List Entry) (r : Relation) (word : List Syllable) (tail : Option ℕ) (numbers : List ℕ)
+pub AreCommutingNumbers-put_entries : (p tails : ℕ) (weights : List ℕ) (entries : List Entry) (r : Relation) (word : List Syllable)
+    (tail : Option ℕ) (numbers : List ℕ)
     → IsOffered p → length weights ≤ max_rank → AreEntries p (length weights) tails entries → IsRelation (length weights) r
-    → AreSyllables p (length weights) (side_start r) word → IsTail tails tail → IsBareRelation (tailed_presentation p weights tails entries) r
+    → AreSyllables p (length weights) (side_start r) word → IsTail tails tail
+    → IsBareRelation (tailed_presentation p weights tails entries) r
     → AreCommutingNumbers (tailed_presentation p weights tails entries) numbers
-    → AreCommutingNumbers (tailed_presentation p weights tails (put_entries (length weights) entries r word tail)) (numbers_with r word tail numbers)
+    → AreCommutingNumbers (tailed_presentation p weights tails (put_entries (length weights) entries r word tail))
+    (numbers_with r word tail numbers)
 AreCommutingNumbers-put_entries p tails weights entries r word tail numbers offered limit are h a t bare old =
     let new : List Entry = put_entries (length weights) entries r word tail in
     let made : tailed_presentation p weights tails (put_entries (length weights) entries r word tail)
     ≡ with_relation (tailed_presentation p weights tails entries) r word tail =
     with_relation-tailed p tails weights entries r word tail are.count h in
     subst (λ (T : TailedPresentation). AreCommutingNumbers T (numbers_with r word tail numbers)) (sym made)
-    (AreCommutingNumbers-with_relation (tailed_presentation p weights tails entries) (tailed_presentation-is p tails weights entries are offered limit)
+    (AreCommutingNumbers-with_relation (tailed_presentation p weights tails entries)
+    (tailed_presentation-is p tails weights entries are offered limit)
     r word tail numbers h a bare
-    (subst IsTailedPresentation made (tailed_presentation-is p tails weights new (put_entries-are (length weights) entries r word tail p tails are h a t) offered limit))
+    (subst IsTailedPresentation made
+    (tailed_presentation-is p tails weights new (put_entries-are (length weights) entries r word tail p tails are h a t) offered limit))
     old)

@@ -13,7 +13,8 @@ use Rattle.pc_presentation.specs.Pcp.{TailedPresentation, IsTailedPresentation, 
 use Rattle.pc_presentation.specs.Definition.{definition_of}
 use Rattle.pc_presentation.specs.Parts.{answer_of, AreImages, AreParts, AreTested, IsDefined}
 use Rattle.pq_base.proofs.PrimeLaws.{positive_prime}
-use Rattle.pc_presentation.proofs.presentations.PartsLaws.{AreWeights-tested, are_weights-AreWeights, image_at, AreNormal-spread, IsGenerator-word, word_from-IsGenerator}
+use Rattle.pc_presentation.proofs.presentations.PartsLaws.{AreWeights-tested, are_weights-AreWeights, image_at, AreNormal-spread}
+use Rattle.pc_presentation.proofs.presentations.PartsLaws.{IsGenerator-word, word_from-IsGenerator}
 
 less_one : (i : ℕ) → suc i - 1 ≡ i
 less_one i = omega arith
@@ -43,7 +44,8 @@ module _ (T : TailedPresentation) (names : List (List ℕ)) (definitions : List 
   image_is i a h =
       ap (λ (k : ℕ). get_or words k []) (less_one i) ∙ image_at T.presentation.prime T.presentation.rank i words a h
 
-  pub HasDefinition-IsDefined : (k : ℕ) (d : Definition) → AreImages T.presentation.prime T.presentation.rank words → IsDefined T words (suc k) d
+  pub HasDefinition-IsDefined : (k : ℕ) (d : Definition) → AreImages T.presentation.prime T.presentation.rank words
+      → IsDefined T words (suc k) d
       → HasDefinition made k (definition_of d)
   HasDefinition-IsDefined k (Image zero) a h = absurd (omega arith)
   HasDefinition-IsDefined k (Image (suc i)) a h =
@@ -51,7 +53,8 @@ module _ (T : TailedPresentation) (names : List (List ℕ)) (definitions : List 
       let inside : i < length words = omega arith in (
         sym (weight_here k) ∙ h.0,
         omega arith,
-        image_word i inside ∙ word_from-IsGenerator k 0 (get_or (map (spread T.presentation.rank 0) words) i []) (sym (image_is i a inside) ∙ h.3),
+        image_word i inside ∙ word_from-IsGenerator k 0 (get_or (map (spread T.presentation.rank 0) words) i [])
+            (sym (image_is i a inside) ∙ h.3),
       )
   HasDefinition-IsDefined k (Commutator zero i) a h = absurd (omega arith)
   HasDefinition-IsDefined k (Commutator (suc j) zero) a h = absurd (omega arith)
@@ -82,7 +85,8 @@ module _ (T : TailedPresentation) (names : List (List ℕ)) (definitions : List 
         weight_here k ∙ h.0,
         omega arith,
         omega arith,
-        image_is i a inside ∙ IsGenerator-word k 0 (get_or (map (spread T.presentation.rank 0) words) i []) (sym (image_word i inside) ∙ h.2),
+        image_is i a inside ∙ IsGenerator-word k 0 (get_or (map (spread T.presentation.rank 0) words) i [])
+            (sym (image_word i inside) ∙ h.2),
       )
   IsDefined-HasDefinition k (Commutator zero i) a h = absurd h
   IsDefined-HasDefinition k (Commutator (suc j) zero) a h = absurd h

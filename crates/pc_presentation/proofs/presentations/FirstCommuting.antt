@@ -36,10 +36,13 @@ module _ (Y Z : RowedPresentation) (ranks : Z.base.rank ≡ Y.base.rank) where
         record {
           after = omega arith;
           within = omega arith;
-          commute = λ l k a b d e. (others l k (omega arith) e (λ s. let t = s.0 in omega arith)).0 (c.commute l k (omega arith) (omega arith) d e);
+          commute =
+              λ l k a b d e. (others l k (omega arith) e (λ s. let t = s.0 in omega arith)).0
+              (c.commute l k (omega arith) (omega arith) d e);
           first = λ y a d. elim (cases_lt j y) [
             | inl later ↦
-                let least : z ≤ y = c.first y a (λ l k f b g e. (others l k b e (λ s. let t = s.0 in omega arith)).1 (d l k f (omega arith) g e)) in
+                let least : z ≤ y =
+                c.first y a (λ l k f b g e. (others l k b e (λ s. let t = s.0 in omega arith)).1 (d l k f (omega arith) g e)) in
                 omega arith
             | inr before ↦ absurd (lost (d j i before (omega arith) h i_below))
           ];

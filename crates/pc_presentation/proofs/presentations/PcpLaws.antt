@@ -11,7 +11,8 @@ use Rattle.pc_presentation.specs.declared.relation.Relation.TheVariants.{Power, 
 use Rattle.pc_presentation.specs.Syllable.{spread, syllables_of}
 use Rattle.pc_presentation.specs.Relation.{IsRelation, IsTail, side_start, per_relation}
 use Rattle.pc_presentation.specs.Store.{Entry, stored_at, AreEntries}
-use Rattle.pc_presentation.specs.Pcp.{TailedPresentation, IsTailedPresentation, HasShape, tailed_presentation, right_side, side_word, tail_of}
+use Rattle.pc_presentation.specs.Pcp.{TailedPresentation, IsTailedPresentation, HasShape, tailed_presentation, right_side, side_word}
+use Rattle.pc_presentation.specs.Pcp.{tail_of}
 use Rattle.pc_presentation.proofs.presentations.SyllableLaws.{length-spread, AllBelow-spread, syllables_of-spread}
 use Rattle.pc_presentation.proofs.presentations.RelationTables.{entry_at-per_relation, per_relation-shape}
 
@@ -44,14 +45,16 @@ module _ (p tails : ℕ) (weights : List ℕ) (entries : List Entry) where
       ap (syllables_of (side_start r)) (right_side-tailed r h)
       ∙ syllables_of-spread p n (n - side_start r) (side_start r) (stored_at n entries r).word (omega arith) (a.words r h)
 
-  later_side : AreEntries p (length weights) tails entries → 1 ≤ p → (r : Relation) (i : ℕ) (e : List ℕ) → IsRelation (length weights) r → side_start r ≡ suc i
+  later_side : AreEntries p (length weights) tails entries → 1 ≤ p → (r : Relation) (i : ℕ) (e : List ℕ) → IsRelation (length weights) r
+      → side_start r ≡ suc i
       → e ≡ right_side (tailed_presentation p weights tails entries).presentation r
       → IsLaterSide (tailed_presentation p weights tails entries).presentation i e
   later_side a h r i e relation start is =
       let n : ℕ = length weights in
       let T : TailedPresentation = tailed_presentation p weights tails entries in
       let inside : side_start r ≤ n = side_start-below n r relation in
-      let long : length (side_of n entries r) ≡ n - side_start r = length-spread (n - side_start r) (side_start r) (stored_at n entries r).word in
+      let long : length (side_of n entries r) ≡ n - side_start r =
+      length-spread (n - side_start r) (side_start r) (stored_at n entries r).word in
       let total : suc i + (n - side_start r) ≡ n = omega arith in
       record {
         count = ap (λ (x : List ℕ). suc i + length x) (is ∙ right_side-tailed r relation) ∙ ap (λ (m : ℕ). suc i + m) long ∙ total;
@@ -77,7 +80,8 @@ module _ (p tails : ℕ) (weights : List ℕ) (entries : List Entry) where
           commutator_count = shape.row_count;
           commutator_counts = shape.row_lengths;
           commutator_sides = λ j i l m.
-              later_side a h (Commutator (suc j) (suc i)) j (commutator_side T.presentation j i) (omega arith, omega arith, omega arith) refl
+              later_side a h (Commutator (suc j) (suc i)) j (commutator_side T.presentation j i)
+              (omega arith, omega arith, omega arith) refl
               (ap (λ (k : ℕ). commutator_side T.presentation k i) (one_less j)
               ∙ ap (λ (k : ℕ). commutator_side T.presentation (suc j - 1) k) (one_less i));
         };

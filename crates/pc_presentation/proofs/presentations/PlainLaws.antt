@@ -1,5 +1,6 @@
 -- Empty words make the presentation of the elementary abelian group, in which no relation has a tail.
-use Rattle.std.proofs.Common.{◌≡◌, ℕ, zero, suc, ◌+◌, ◌-◌, Option, None, false, List, [], ◌∷◌, get_or, length, replicate, refl, ap, sym, ◌∙◌, subst, arith}
+use Rattle.std.proofs.Common.{◌≡◌, ℕ, zero, suc, ◌+◌, ◌-◌, Option, None, false, List, [], ◌∷◌, get_or, length, replicate, refl, ap, sym}
+use Rattle.std.proofs.Common.{◌∙◌, subst, arith}
 use Rattle.std.proofs.lemmas.List.{length-replicate}
 use Rattle.pq_base.specs.Elementary.{zeros, zero_powers, zero_rows}
 use Rattle.pc_presentation.specs.declared.relation.Relation.{Relation}
@@ -30,7 +31,8 @@ zero_powers-tabulate (suc n) =
     let first : suc n - 1 ≡ n = omega arith in
     ap (λ (m : ℕ). zeros m ∷ tabulate n (λ i. zeros (suc n - suc (suc i)))) first
     ∙ ap (λ (xs : List (List ℕ)). zeros n ∷ xs)
-    (tabulate_agree n (λ i. zeros (suc n - suc (suc i))) (λ i. zeros (n - suc i)) (λ i l. let e : suc n - suc (suc i) ≡ n - suc i = omega arith in ap zeros e)
+    (tabulate_agree n (λ i. zeros (suc n - suc (suc i))) (λ i. zeros (n - suc i))
+    (λ i l. let e : suc n - suc (suc i) ≡ n - suc i = omega arith in ap zeros e)
     ∙ zero_powers-tabulate n)
 
 zero_rows-tabulate : (k n : ℕ) → tabulate n (λ j. replicate (k + j) (zeros (n - suc j))) ≡ zero_rows k n
@@ -51,7 +53,8 @@ zero_sides n = record { powers = zero_powers n; commutators = zero_rows 0 n }
 
 zero_sides-per_relation : (n : ℕ) → per_relation n (λ r. zeros (n - side_start r)) ≡ zero_sides n
 zero_sides-per_relation n =
-    ap (λ (ps : List (List ℕ)). let t : PerRelation (List ℕ) = record { powers = ps; commutators = tabulate n (λ j. tabulate j (λ _. zeros (n - suc j))) } in t)
+    ap (λ (ps : List (List ℕ)). let t : PerRelation (List ℕ) =
+    record { powers = ps; commutators = tabulate n (λ j. tabulate j (λ _. zeros (n - suc j))) } in t)
     (zero_powers-tabulate n)
     ∙ ap (λ (cs : List (List (List ℕ))). let t : PerRelation (List ℕ) = record { powers = zero_powers n; commutators = cs } in t)
     (tabulate_agree n (λ j. tabulate j (λ _. zeros (n - suc j))) (λ j. replicate (0 + j) (zeros (n - suc j)))
@@ -62,23 +65,27 @@ stored_blank : (m n : ℕ) (r : Relation) → stored_at n (replicate m blank) r 
 stored_blank m n r = get_or-replicate_same m (relation_number n r) blank
 
 -- what is kept of it
-pub AreEntries-plain : (p tails m n : ℕ) (entries : List Entry) → m ≡ relation_count n → entries ≡ replicate m blank → AreEntries p n tails entries
+pub AreEntries-plain : (p tails m n : ℕ) (entries : List Entry) → m ≡ relation_count n → entries ≡ replicate m blank
+    → AreEntries p n tails entries
 AreEntries-plain p tails m n entries count e = subst (AreEntries p n tails) (sym e) (record {
   count = length-replicate m blank ∙ count;
   words = λ r h. subst (λ (x : Entry). AreSyllables p n (side_start r) x.word) (sym (stored_blank m n r)) tt;
   in_range = λ r h. subst (λ (x : Entry). IsTail tails x.tail) (sym (stored_blank m n r)) tt;
 })
 
-pub plain-tailed : (p tails m : ℕ) (weights : List ℕ) → tailed_presentation p weights tails (replicate m blank) ≡ plain_presentation p weights tails
+pub plain-tailed : (p tails m : ℕ) (weights : List ℕ)
+    → tailed_presentation p weights tails (replicate m blank) ≡ plain_presentation p weights tails
 plain-tailed p tails m weights =
     let n : ℕ = length weights in
     let some : PerRelation (Option ℕ) = per_relation n (λ q. (stored_at n (replicate m blank) q).tail) in
     ap (λ (s : PerRelation (List ℕ)). from_tables p weights tails s some)
     (per_relation_agree n (side_of n (replicate m blank)) (λ r. zeros (n - side_start r))
-    (λ r h. ap (λ (e : Entry). spread (n - side_start r) (side_start r) e.word) (stored_blank m n r) ∙ spread-nil (n - side_start r) (side_start r))
+    (λ r h. ap (λ (e : Entry). spread (n - side_start r) (side_start r) e.word) (stored_blank m n r)
+    ∙ spread-nil (n - side_start r) (side_start r))
     ∙ zero_sides-per_relation n)
     ∙ ap (λ (t : PerRelation (Option ℕ)). from_tables p weights tails (zero_sides n) t)
-    (per_relation_agree n (λ q. (stored_at n (replicate m blank) q).tail) (λ _. None) (λ r h. ap (λ (e : Entry). e.tail) (stored_blank m n r)))
+    (per_relation_agree n (λ q. (stored_at n (replicate m blank) q).tail) (λ _. None)
+    (λ r h. ap (λ (e : Entry). e.tail) (stored_blank m n r)))
 
 pub no_flags : (n m : ℕ) → per_relation n (λ r. get_or (replicate m false) (relation_number n r) false) ≡ per_relation n (λ _. false)
 no_flags n m = per_relation_agree n (λ r. get_or (replicate m false) (relation_number n r) false) (λ _. false)

@@ -6,7 +6,8 @@ use Rattle.std.proofs.lemmas.Bool.{cases_eq}
 use Rattle.pc_presentation.specs.declared.syllable.Syllable.{Syllable}
 use Rattle.pc_presentation.specs.declared.relation.Relation.{Relation}
 use Rattle.pc_presentation.specs.Syllable.{spread, AreSyllables}
-use Rattle.pc_presentation.specs.Relation.{IsRelation, IsTail, side_start, PerRelation, with_entry, per_relation, relation_number, relation_count}
+use Rattle.pc_presentation.specs.Relation.{IsRelation, IsTail, side_start, PerRelation, with_entry, per_relation, relation_number}
+use Rattle.pc_presentation.specs.Relation.{relation_count}
 use Rattle.pc_presentation.specs.Store.{Entry, blank, stored_at, AreEntries}
 use Rattle.pc_presentation.specs.Pcp.{TailedPresentation, tailed_presentation, with_relation}
 use Rattle.pc_presentation.proofs.presentations.RelationNumbers.{relation_number-below, relation_number-injective}
@@ -66,11 +67,12 @@ module _ (n : ℕ) (entries : List Entry) (r : Relation) (word : List Syllable) 
 
   tails_replaced : length entries ≡ relation_count n → IsRelation n r
       → with_entry (per_relation n (λ q. (stored_at n entries q).tail)) r tail ≡ per_relation n (λ q. (stored_at n put_entries q).tail)
-  tails_replaced long h = with_entry-per_relation n (λ q. (stored_at n entries q).tail) (λ q. (stored_at n put_entries q).tail) r tail (record {
-    relation = h;
-    here = ap (λ (e : Entry). e.tail) (stored_here long h);
-    elsewhere = λ q l ne. ap (λ (e : Entry). e.tail) (stored_elsewhere q l h ne);
-  })
+  tails_replaced long h =
+      with_entry-per_relation n (λ q. (stored_at n entries q).tail) (λ q. (stored_at n put_entries q).tail) r tail (record {
+        relation = h;
+        here = ap (λ (e : Entry). e.tail) (stored_here long h);
+        elsewhere = λ q l ne. ap (λ (e : Entry). e.tail) (stored_elsewhere q l h ne);
+      })
 
 -- a presentation from the tables of its right sides and tails
 abbrev pub from_tables : ℕ → List ℕ → ℕ → PerRelation (List ℕ) → PerRelation (Option ℕ) → TailedPresentation
@@ -89,7 +91,8 @@ with_relation-tailed p tails weights entries r word tail long h =
     let n : ℕ = length weights in
     let sides : PerRelation (List ℕ) = per_relation n (side_of n (put_entries n entries r word tail)) in
     let old_tails : PerRelation (Option ℕ) = per_relation n (λ q. (stored_at n entries q).tail) in
-    sym (ap (λ (s : PerRelation (List ℕ)). from_tables p weights tails s (with_entry old_tails r tail)) (sides_replaced n entries r word tail long h)
+    sym (ap (λ (s : PerRelation (List ℕ)). from_tables p weights tails s (with_entry old_tails r tail))
+    (sides_replaced n entries r word tail long h)
     ∙ ap (λ (t : PerRelation (Option ℕ)). from_tables p weights tails sides t) (tails_replaced n entries r word tail long h))
 
 -- flags of relations
@@ -97,7 +100,8 @@ pub flags_replaced : (n : ℕ) (flags : List Bool) (r : Relation) (b : Bool) →
     → with_entry (per_relation n (λ q. get_or flags (relation_number n q) false)) r b
     ≡ per_relation n (λ q. get_or (set flags (relation_number n r) b) (relation_number n q) false)
 flags_replaced n flags r b long h =
-    with_entry-per_relation n (λ q. get_or flags (relation_number n q) false) (λ q. get_or (set flags (relation_number n r) b) (relation_number n q) false) r b (record {
+    with_entry-per_relation n (λ q. get_or flags (relation_number n q) false)
+    (λ q. get_or (set flags (relation_number n r) b) (relation_number n q) false) r b (record {
       relation = h;
       here = at_number n flags false r b long h;
       elsewhere = λ q l ne. at_other_number n flags false r b q l h ne;

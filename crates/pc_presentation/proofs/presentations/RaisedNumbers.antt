@@ -3,7 +3,8 @@ use Rattle.std.proofs.Common.{◌≡◌, ℕ, zero, suc, ◌+◌, ◌<◌, ◌�
 use Rattle.std.proofs.Math.ListN.{set}
 use Rattle.pc_presentation.specs.CommutingNumbers.{raised_to}
 
-pub raised_to_more : (n i : ℕ) (xs : List ℕ) → i < length xs → set (raised_to n i xs) i (max n (get_or (raised_to n i xs) i 0)) ≡ raised_to n (i + 1) xs
+pub raised_to_more : (n i : ℕ) (xs : List ℕ) → i < length xs
+    → set (raised_to n i xs) i (max n (get_or (raised_to n i xs) i 0)) ≡ raised_to n (i + 1) xs
 raised_to_more n i [] h = absurd (omega arith)
 raised_to_more n zero (x ∷ xs) h = refl
 raised_to_more n (suc i) (x ∷ xs) h =

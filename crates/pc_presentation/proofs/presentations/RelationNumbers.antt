@@ -43,7 +43,8 @@ same_row a b i j h k e = elim (cases_lt a b) [
   ]
 ]
 
-pub relation_number-injective : (n : ℕ) (q r : Relation) → IsRelation n q → IsRelation n r → relation_number n q ≡ relation_number n r → q ≡ r
+pub relation_number-injective : (n : ℕ) (q r : Relation) → IsRelation n q → IsRelation n r → relation_number n q ≡ relation_number n r
+    → q ≡ r
 relation_number-injective n (Power i) (Power k) h l e = let same : i ≡ k = omega arith in ap Power same
 relation_number-injective n (Power i) (Commutator l k) h m e = absurd (omega arith)
 relation_number-injective n (Commutator j i) (Power k) h l e = absurd (omega arith)

@@ -11,7 +11,8 @@ use Rattle.pc_presentation.specs.Pcp.{TailedPresentation, IsTailedPresentation, 
 use Rattle.pc_presentation.specs.Rowed.{power_row, commutator_row}
 use Rattle.pc_presentation.specs.Collection.{Configuration, spelled}
 use Rattle.pc_presentation.specs.Tailed.{rowed_presentation, sparse_configuration, side_with_tail}
-use Rattle.pc_presentation.proofs.quotients.TailedLaws.{power_side-with_tail, commutator_side-with_tail, places_of-syllables_of, generators-syllables_of}
+use Rattle.pc_presentation.proofs.quotients.TailedLaws.{power_side-with_tail, commutator_side-with_tail, places_of-syllables_of}
+use Rattle.pc_presentation.proofs.quotients.TailedLaws.{generators-syllables_of}
 use Rattle.pc_presentation.proofs.presentations.SideLaws.{right_side-count}
 
 module _ (T : TailedPresentation) (is : IsTailedPresentation T) where
@@ -25,14 +26,20 @@ module _ (T : TailedPresentation) (is : IsTailedPresentation T) where
   -- at places
   pub power_side-numbered : (i : ℕ) → 1 ≤ i → i ≤ T.presentation.rank
       → side_with_tail T (Power i)
-      ≡ record { word = spelled (suc (i - 1)) (power_side (rowed_presentation T).base (i - 1)); row = power_row (rowed_presentation T) (i - 1) }
+      ≡ record {
+        word = spelled (suc (i - 1)) (power_side (rowed_presentation T).base (i - 1));
+        row = power_row (rowed_presentation T) (i - 1);
+      }
   power_side-numbered i one last =
       let a : i ≡ suc (i - 1) = omega arith in
       ap (λ (k : ℕ). side_with_tail T (Power k)) a ∙ power_side-with_tail T is (i - 1) (omega arith)
 
   pub commutator_side-numbered : (j i : ℕ) → 1 ≤ i → i < j → j ≤ T.presentation.rank
       → side_with_tail T (Commutator j i)
-      ≡ record { word = spelled (suc (j - 1)) (commutator_side (rowed_presentation T).base (j - 1) (i - 1)); row = commutator_row (rowed_presentation T) (j - 1) (i - 1) }
+      ≡ record {
+        word = spelled (suc (j - 1)) (commutator_side (rowed_presentation T).base (j - 1) (i - 1));
+        row = commutator_row (rowed_presentation T) (j - 1) (i - 1);
+      }
   commutator_side-numbered j i one less last =
       let a : j ≡ suc (j - 1) = omega arith in
       let b : i ≡ suc (i - 1) = omega arith in
@@ -46,4 +53,5 @@ side-read T r w t q u =
     ap (λ (v : List Syllable). sparse_configuration T.tails v t) q
     ∙ ap (λ (v : List ℕ). let c : Configuration = record { word = v; row = row_of T.tails t } in c)
     (places_of-syllables_of (side_start r) (right_side T.presentation r))
-    ∙ ap (λ (x : Option ℕ). let c : Configuration = record { word = spelled (side_start r) (right_side T.presentation r); row = row_of T.tails x } in c) u
+    ∙ ap (λ (x : Option ℕ). let c : Configuration =
+    record { word = spelled (side_start r) (right_side T.presentation r); row = row_of T.tails x } in c) u

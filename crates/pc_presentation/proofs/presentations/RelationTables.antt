@@ -78,9 +78,11 @@ module _ {X : Type 0} where
   }
 
   -- two functions that agree on the relations of n generators have one table
-  pub per_relation_agree : (n : ℕ) (f g : Relation → X) → ((q : Relation) → IsRelation n q → f q ≡ g q) → per_relation n f ≡ per_relation n g
+  pub per_relation_agree : (n : ℕ) (f g : Relation → X) → ((q : Relation) → IsRelation n q → f q ≡ g q)
+      → per_relation n f ≡ per_relation n g
   per_relation_agree n f g h =
-      ap (λ (ps : List X). let t : PerRelation X = record { powers = ps; commutators = tabulate n (λ j. tabulate j (λ i. f (Commutator (suc j) (suc i)))) } in t)
+      ap (λ (ps : List X). let t : PerRelation X =
+      record { powers = ps; commutators = tabulate n (λ j. tabulate j (λ i. f (Commutator (suc j) (suc i)))) } in t)
       (tabulate_agree n (λ i. f (Power (suc i))) (λ i. g (Power (suc i))) (λ i l. h (Power (suc i)) (omega arith, omega arith)))
       ∙ ap (λ (cs : List (List X)). let t : PerRelation X = record { powers = tabulate n (λ i. g (Power (suc i))); commutators = cs } in t)
       (tabulate_agree n (λ j. tabulate j (λ i. f (Commutator (suc j) (suc i)))) (λ j. tabulate j (λ i. g (Commutator (suc j) (suc i))))
@@ -98,7 +100,8 @@ module _ {X : Type 0} where
   powers_replaced n f g i x p =
       let place : suc i - 1 ≡ i = omega arith in
       let inside : i < n = omega (arith, p.relation) in
-      ap (λ (ps : List X). let t : PerRelation X = record { powers = ps; commutators = tabulate n (λ j. tabulate j (λ k. f (Commutator (suc j) (suc k)))) } in t)
+      ap (λ (ps : List X). let t : PerRelation X =
+      record { powers = ps; commutators = tabulate n (λ j. tabulate j (λ k. f (Commutator (suc j) (suc k)))) } in t)
       (ap (λ (k : ℕ). set (tabulate n (λ l. f (Power (suc l)))) k x) place
       ∙ set-tabulate n (λ l. f (Power (suc l))) (λ l. g (Power (suc l))) i x inside p.here
       (λ k l ne. p.elsewhere (Power (suc k)) (omega arith, omega arith)
@@ -121,12 +124,16 @@ module _ {X : Type 0} where
       let replaced : set (old j) i x ≡ new j =
       set-tabulate j (λ k. f (Commutator (suc j) (suc k))) (λ k. g (Commutator (suc j) (suc k))) i x inside p.here
       (λ k m ne. p.elsewhere (Commutator (suc j) (suc k)) (omega arith, omega arith, omega arith)
-      (λ (e : Commutator (suc j) (suc k) ≡ Commutator (suc j) (suc i)). let same : suc k ≡ suc i = second_number (suc j) (suc k) (suc j) (suc i) e in ne (omega arith))) in
+      (λ (e : Commutator (suc j) (suc k) ≡ Commutator (suc j) (suc i)). let same : suc k ≡ suc i =
+      second_number (suc j) (suc k) (suc j) (suc i) e in ne (omega arith))) in
       let others : (l : ℕ) → l < n → l ≢ j → new l ≡ old l =
       λ l m ne. tabulate_agree l (λ k. g (Commutator (suc l) (suc k))) (λ k. f (Commutator (suc l) (suc k)))
       (λ k b. p.elsewhere (Commutator (suc l) (suc k)) (omega arith, omega arith, omega arith)
-      (λ (e : Commutator (suc l) (suc k) ≡ Commutator (suc j) (suc i)). let same : suc l ≡ suc j = first_number (suc l) (suc k) (suc j) (suc i) e in ne (omega arith))) in
-      ap (λ (ps : List X). let t : PerRelation X = record { powers = ps; commutators = set (tabulate n old) (suc j - 1) (set (get_or (tabulate n old) (suc j - 1) []) (suc i - 1) x) } in t)
+      (λ (e : Commutator (suc l) (suc k) ≡ Commutator (suc j) (suc i)). let same : suc l ≡ suc j =
+      first_number (suc l) (suc k) (suc j) (suc i) e in ne (omega arith))) in
+      ap (λ (ps : List X). let t : PerRelation X =
+      record { powers = ps; commutators = set (tabulate n old) (suc j - 1) (set (get_or (tabulate n old) (suc j - 1) []) (suc i - 1) x) } in
+      t)
       (tabulate_agree n (λ k. f (Power (suc k))) (λ k. g (Power (suc k)))
       (λ k l. sym (p.elsewhere (Power (suc k)) (omega arith, omega arith)
       (λ (e : Power (suc k) ≡ Commutator (suc j) (suc i)). power_no_commutator (suc k) (suc j) (suc i) e))))

@@ -1,5 +1,6 @@
 -- Putting a word at the end of the store and its place in place of another changes one entry alone.
-use Rattle.std.proofs.Common.{◌≡◌, ℕ, zero, suc, ◌-◌, ◌≤◌, Option, List, [], ◌∷◌, ◌++◌, length, take, drop, replicate, refl, ap, sym, ◌∙◌, arith, length-append}
+use Rattle.std.proofs.Common.{◌≡◌, ℕ, zero, suc, ◌-◌, ◌≤◌, Option, List, [], ◌∷◌, ◌++◌, length, take, drop, replicate, refl, ap, sym, ◌∙◌}
+use Rattle.std.proofs.Common.{arith, length-append}
 use Rattle.std.proofs.Math.ListN.{set}
 use Rattle.std.proofs.lemmas.List.{map-set, take-append-le, drop-append-le, drop_at, take_all, length-drop}
 use Rattle.pc_presentation.specs.declared.syllable.Syllable.{Syllable}
@@ -36,7 +37,8 @@ pub entries_of-put : (syllables w : List Syllable) (places : List Place) (k star
     ≡ set (entries_of syllables places) k (record { word = w; tail = tail })
 entries_of-put syllables w places k start end tail h s l =
     map-set (entry_of (syllables ++ w)) places k (record { start = start; end = end; tail = tail })
-    ∙ ap (λ (es : List Entry). set es k (entry_of (syllables ++ w) (record { start = start; end = end; tail = tail }))) (entries_of-append syllables w places h)
+    ∙ ap (λ (es : List Entry). set es k (entry_of (syllables ++ w) (record { start = start; end = end; tail = tail })))
+    (entries_of-append syllables w places h)
     ∙ ap (λ (e : Entry). set (entries_of syllables places) k e) (entry_of-end syllables w start end tail s l)
 
 pub entries_of-replicate : (n : ℕ) → entries_of [] (replicate n no_place) ≡ replicate n blank

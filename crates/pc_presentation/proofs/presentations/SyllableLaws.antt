@@ -1,6 +1,7 @@
 -- Sparse words and lists of exponents are two forms of one thing: each function undoes the other, and both have the same
 -- letters.
-use Rattle.std.proofs.Common.{◌≡◌, ◌≢◌, ℕ, zero, suc, ◌+◌, ◌-◌, ◌<◌, ◌≤◌, ℤ, pos, Bool, true, false, cond, eqb, List, [], ◌∷◌, ◌++◌, length, get_or, take, refl, ap, sym, ◌∙◌, subst, arith, append_assoc}
+use Rattle.std.proofs.Common.{◌≡◌, ◌≢◌, ℕ, zero, suc, ◌+◌, ◌-◌, ◌<◌, ◌≤◌, ℤ, pos, Bool, true, false, cond, eqb, List, [], ◌∷◌, ◌++◌, length}
+use Rattle.std.proofs.Common.{get_or, take, refl, ap, sym, ◌∙◌, subst, arith, append_assoc}
 use Rattle.std.proofs.lemmas.List.{append-nil, take_more}
 use borrow.Author.Tests.{eqb-true, eqb-false, eq-eqb}
 use Rattle.pq_base.specs.SignedWord.{copies, sub}
@@ -9,7 +10,8 @@ use Rattle.pq_base.specs.Table.{AllBelow}
 use Rattle.pq_base.specs.Presentation.{word_from}
 use Rattle.pq_base.specs.Answer.{word_at}
 use Rattle.pc_presentation.specs.declared.syllable.Syllable.{Syllable}
-use Rattle.pc_presentation.specs.Syllable.{syllable, first_exponent, after_first, spread, syllables_of, AreSyllables, letters_of, SparseWordsAreExponents}
+use Rattle.pc_presentation.specs.Syllable.{syllable, first_exponent, after_first, spread, syllables_of, AreSyllables, letters_of}
+use Rattle.pc_presentation.specs.Syllable.{SparseWordsAreExponents}
 
 pub length-spread : (n k : ℕ) (w : List Syllable) → length (spread n k w) ≡ n
 length-spread zero k w = refl

@@ -15,7 +15,8 @@ empty_images zero = refl
 empty_images (suc n) = ap (λ (images : List (List ℕ)). [] ∷ images) (empty_images n)
 
 module _ (p : ℕ) (names : List (List ℕ)) (T : TailedPresentation) (words : List (List Syllable)) where
-  pub answer_of-trivial : T ≡ plain_presentation p [] 0 → words ≡ replicate (length names) [] → answer_of T names [] words ≡ trivial_answer p names
+  pub answer_of-trivial : T ≡ plain_presentation p [] 0 → words ≡ replicate (length names) []
+      → answer_of T names [] words ≡ trivial_answer p names
   answer_of-trivial e f =
       ap (λ (t : TailedPresentation). answer_of t names [] words) e
       ∙ ap (answer_of (plain_presentation p [] 0) names []) f
@@ -26,7 +27,8 @@ module _ (p : ℕ) (names : List (List ℕ)) (T : TailedPresentation) (words : L
       let long : length (replicate {A = List Syllable} n []) ≡ n = length-replicate n [] in
       subst (AreSyllables p 0 0) (sym (get_or-replicate {A = List Syllable} n k [] d (omega arith))) tt
 
-  pub trivial_parts : T ≡ plain_presentation p [] 0 → words ≡ replicate (length names) [] → 2 ≤ p → 1 ≤ length names → length names ≤ max_names
+  pub trivial_parts : T ≡ plain_presentation p [] 0 → words ≡ replicate (length names) [] → 2 ≤ p → 1 ≤ length names
+      → length names ≤ max_names
       → AreDistinct names → AreParts T names [] words
   trivial_parts e f prime some limit distinct =
       subst (λ (t : TailedPresentation). AreParts t names [] words) (sym e)

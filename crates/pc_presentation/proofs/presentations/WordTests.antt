@@ -55,7 +55,8 @@ later_from_normal p k (s ∷ w) h =
     All-cons (λ (x : Syllable). k < x.generator) s w step.rises
     (AreLater-weaken k s.generator w (omega arith) (later_from_normal p s.generator w step.rest))
 
-pub AreSyllables-from_tests : (p n j k : ℕ) (w : List Syllable) → AreGenerators n w → is_normal_from p j w ≡ true → AreLater k w → AreSyllables p n k w
+pub AreSyllables-from_tests : (p n j k : ℕ) (w : List Syllable) → AreGenerators n w → is_normal_from p j w ≡ true → AreLater k w
+    → AreSyllables p n k w
 AreSyllables-from_tests p n j k [] g h l = tt
 AreSyllables-from_tests p n j k (s ∷ w) g h l =
     let step : IsNormalStep p j s w = normal_step p j s w h in

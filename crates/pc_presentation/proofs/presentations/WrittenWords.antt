@@ -1,5 +1,6 @@
 -- A word written over zeros, syllable by syllable, has its own exponents, and a row added to zeros is that row.
-use Rattle.std.proofs.Common.{◌≡◌, ◌<◌, ◌≤◌, ◌+◌, ◌-◌, ◌%◌, ℕ, zero, suc, Bool, true, false, cond, eqb, Some, List, [], ◌∷◌, ◌++◌, length, replicate, refl, ap, ap₂, sym, ◌∙◌, append_assoc, arith, zero-add, mod-eq_of_lt}
+use Rattle.std.proofs.Common.{◌≡◌, ◌<◌, ◌≤◌, ◌+◌, ◌-◌, ◌%◌, ℕ, zero, suc, Bool, true, false, cond, eqb, Some, List, [], ◌∷◌, ◌++◌, length}
+use Rattle.std.proofs.Common.{replicate, refl, ap, ap₂, sym, ◌∙◌, append_assoc, arith, zero-add, mod-eq_of_lt}
 use Rattle.std.specs.Prelude.{All}
 use Rattle.std.proofs.Math.ListN.{set}
 use Rattle.std.proofs.lemmas.Bool.{eq-eqb, ne_eqb}
@@ -55,7 +56,8 @@ written-split p n m k front w long more (later v h a) =
 written-split p n m k front w long more (now x v b l a) =
     let place : length front ≡ suc k - 1 = omega arith in
     ap (λ (e : List ℕ). written e v) (set_at front 0 (replicate m 0) (suc x) (suc k - 1) place)
-    ∙ one_place_on m k (suc x) front (replicate m 0) v (syllable (suc k) (suc x) ∷ v) long (λ next q. more next v q a) (spread-here m k (suc x) v)
+    ∙ one_place_on m k (suc x) front (replicate m 0) v (syllable (suc k) (suc x) ∷ v) long (λ next q. more next v q a)
+    (spread-here m k (suc x) v)
 
 written-from : (p n m k : ℕ) (front : List ℕ) (w : List Syllable) → k + m ≡ n → length front ≡ k → AreSyllables p n k w
     → written (front ++ replicate m 0) w ≡ front ++ spread m k w
@@ -72,7 +74,8 @@ abbrev pub element_written : Element → List Syllable → Element
 element_written e w = with_state e (record { exponents = written e.state.exponents w; row = e.state.row })
 
 -- elements that become one by writing have as many exponents
-pub same_length : (e f : Element) (v w : List Syllable) → element_written e v ≡ element_written f w → length e.state.exponents ≡ length f.state.exponents
+pub same_length : (e f : Element) (v w : List Syllable) → element_written e v ≡ element_written f w
+    → length e.state.exponents ≡ length f.state.exponents
 same_length e f v w h =
     sym (length-written e.state.exponents v) ∙ ap (λ (x : Element). length x.state.exponents) h ∙ length-written f.state.exponents w
 

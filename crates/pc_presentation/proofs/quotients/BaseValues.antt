@@ -30,7 +30,8 @@ module _ (Y : RowedPresentation) (rowed : IsRowed Y) (big : 1 < Y.base.prime) (p
       → Joined Y.base (state_word (product_by Y push u v)) (state_word u ++ state_word v)
   product-joined_base u v h i =
       let c = i.exponents.count in
-      joined-sym (push_word-joined_base Y push meaning (spelled 0 v.exponents) u h (AllBelow-spelled Y.base.rank 0 v.exponents (omega arith)))
+      joined-sym (push_word-joined_base Y push meaning (spelled 0 v.exponents) u h
+      (AllBelow-spelled Y.base.rank 0 v.exponents (omega arith)))
 
   pub value-joined_base : (f g : List State) (w : List ℤ) → AreImages Y push f g → HasLetters (length f) w
       → Joined Y.base (state_word (evaluate_from Y push f g (identity Y Y.base.rank) w)) (sub w (map state_word f))

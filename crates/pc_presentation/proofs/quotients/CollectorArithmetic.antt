@@ -1,6 +1,7 @@
 -- The arithmetic of each collector: the identity is neutral, and products, inverses, commutators and values are joined to
 -- the words of these names in the flat reading.
-use Rattle.std.proofs.Common.{◌≡◌, ℕ, zero, suc, ◌<◌, ℤ, pos, negsuc, List, [], ◌∷◌, ◌++◌, get_or, length, map, replicate, refl, ap, sym, ◌∙◌, subst, arith, append_assoc}
+use Rattle.std.proofs.Common.{◌≡◌, ℕ, zero, suc, ◌<◌, ℤ, pos, negsuc, List, [], ◌∷◌, ◌++◌, get_or, length, map, replicate, refl, ap, sym}
+use Rattle.std.proofs.Common.{◌∙◌, subst, arith, append_assoc}
 use Rattle.std.proofs.lemmas.List.{append-nil, get_or_default, length-map}
 use Rattle.std.proofs.Math.ListN.{get_or-map}
 use Rattle.pq_base.specs.SignedWord.{inv, comm, sub, HasLetters}
@@ -8,11 +9,13 @@ use Rattle.pq_base.specs.Table.{AllBelow}
 use Rattle.pq_base.specs.Presentation.{IsNormal, letter, word_from}
 use Rattle.pq_base.specs.Joined.{Joined}
 use Rattle.pq_base.proofs.words.WordLaws.{word_from-zeros, inv-append}
-use Rattle.pq_base.proofs.words.JoinedLaws.{joined-sym, joined-trans, joined-from_equal, joined-append_left, joined-append_right, joined-solve_right}
+use Rattle.pq_base.proofs.words.JoinedLaws.{joined-sym, joined-trans, joined-from_equal, joined-append_left, joined-append_right}
+use Rattle.pq_base.proofs.words.JoinedLaws.{joined-solve_right}
 use Rattle.pq_base.proofs.PrimeLaws.{positive_prime}
 use Rattle.fp_rows.proofs.BelowLaws.{AllBelow-append}
 use Rattle.pc_presentation.specs.Rowed.{RowedPresentation, IsRowed, row_sum, flat}
-use Rattle.pc_presentation.specs.Collection.{Configuration, State, IsState, identity, spelled, letters, configuration_of, add_row, push_word}
+use Rattle.pc_presentation.specs.Collection.{Configuration, State, IsState, identity, spelled, letters, configuration_of, add_row}
+use Rattle.pc_presentation.specs.Collection.{push_word}
 use Rattle.pc_presentation.specs.Collection.Run.{stop, move}
 use Rattle.pc_presentation.specs.Arithmetic.{IsMeaning, product_by, word_of, evaluate_from, AreImages, HasArithmetic}
 use Rattle.pc_presentation.specs.CollectionLaws.{PlainRuleIsAMeaning, CollectorsHaveArithmetic}
@@ -78,12 +81,14 @@ module _ (Y : RowedPresentation) (rowed : IsRowed Y) (big : 1 < Y.base.prime) (p
   product-identity u h = push_configuration-identity Y push Y.base.rank Y.base.rank u h
 
   -- pushes are joined
-  push-joined : (s : State) (i : ℕ) → IsState Y Y.base.rank s → i < Y.base.rank → Joined (flat Y) (word_of Y s ++ letter i) (word_of Y (push s i))
+  push-joined : (s : State) (i : ℕ) → IsState Y Y.base.rank s → i < Y.base.rank
+      → Joined (flat Y) (word_of Y s ++ letter i) (word_of Y (push s i))
   push-joined s i h l =
       let c = h.exponents.count in
       joined-trans (letter-behind Y rowed (omega arith) s i h l)
       (run-joined_flat Y rowed (omega arith) (meaning.pushed s i h l).run
-      (AllBelow-append Y.base.rank (spelled 0 s.exponents) (i ∷ []) (AllBelow-spelled Y.base.rank 0 s.exponents (omega arith)) (l, tt)) h.row)
+      (AllBelow-append Y.base.rank (spelled 0 s.exponents) (i ∷ []) (AllBelow-spelled Y.base.rank 0 s.exponents (omega arith)) (l, tt))
+      h.row)
 
   pub push_word-joined : (u : List ℕ) (s : State) → IsState Y Y.base.rank s → AllBelow Y.base.rank u
       → Joined (flat Y) (word_of Y s ++ letters u) (word_of Y (push_word push s u))
@@ -93,23 +98,29 @@ module _ (Y : RowedPresentation) (rowed : IsRowed Y) (big : 1 < Y.base.prime) (p
       (joined-trans (joined-append_right (letters u) (push-joined s i h b.0))
       (push_word-joined u (push s i) (meaning.pushed s i h b.0).state b.1))
 
-  product-joined : (u v : State) → IsState Y Y.base.rank u → IsState Y Y.base.rank v → Joined (flat Y) (word_of Y (product_by Y push u v)) (word_of Y u ++ word_of Y v)
+  product-joined : (u v : State) → IsState Y Y.base.rank u → IsState Y Y.base.rank v
+      → Joined (flat Y) (word_of Y (product_by Y push u v)) (word_of Y u ++ word_of Y v)
   product-joined u v h m =
       let c = m.exponents.count in
       let w : List ℕ = spelled 0 v.exponents in
       let s : State = push_word push u w in
-      let ends : IsState Y Y.base.rank (push_word push u (spelled 0 v.exponents)) = (push-spelled Y rowed big push meaning 0 v.exponents u (omega arith) h).state in
-      let rows : Joined (flat Y) (word_from Y.base.rank s.row ++ word_from Y.base.rank v.row) (word_from Y.base.rank (row_sum Y.base.prime s.row v.row)) =
+      let ends : IsState Y Y.base.rank (push_word push u (spelled 0 v.exponents)) =
+      (push-spelled Y rowed big push meaning 0 v.exponents u (omega arith) h).state in
+      let rows : Joined (flat Y) (word_from Y.base.rank s.row ++ word_from Y.base.rank v.row)
+      (word_from Y.base.rank (row_sum Y.base.prime s.row v.row)) =
       row_words-add Y rowed s.row v.row ends.row.count m.row.count in
-      let pushed : Joined (flat Y) (word_of Y u ++ letters w) (word_of Y s) = push_word-joined w u h (AllBelow-spelled Y.base.rank 0 v.exponents (omega arith)) in
+      let pushed : Joined (flat Y) (word_of Y u ++ letters w) (word_of Y s) =
+      push_word-joined w u h (AllBelow-spelled Y.base.rank 0 v.exponents (omega arith)) in
       joined-trans (joined-append_left (letters (spelled 0 s.exponents)) (joined-sym rows))
-      (joined-trans (joined-from_equal (flat Y) (sym (append_assoc (letters (spelled 0 s.exponents)) (word_from Y.base.rank s.row) (word_from Y.base.rank v.row))))
+      (joined-trans (joined-from_equal (flat Y)
+      (sym (append_assoc (letters (spelled 0 s.exponents)) (word_from Y.base.rank s.row) (word_from Y.base.rank v.row))))
       (joined-trans (joined-append_right (word_from Y.base.rank v.row) (joined-sym pushed))
       (joined-from_equal (flat Y) (append_assoc (word_of Y u) (letters w) (word_from Y.base.rank v.row)))))
 
   pub identity-word : word_of Y (identity Y Y.base.rank) ≡ []
   identity-word =
-      ap (λ (u : List ℕ). letters u ++ word_from Y.base.rank (replicate Y.width 0)) (spelled-zeros 0 Y.base.rank) ∙ word_from-zeros Y.base.rank Y.width
+      ap (λ (u : List ℕ). letters u ++ word_from Y.base.rank (replicate Y.width 0)) (spelled-zeros 0 Y.base.rank)
+      ∙ word_from-zeros Y.base.rank Y.width
 
   inverse-joined : (u e : State) → IsState Y Y.base.rank u → IsState Y Y.base.rank e → product_by Y push u e ≡ identity Y Y.base.rank
       → Joined (flat Y) (word_of Y e) (inv (word_of Y u))
@@ -119,7 +130,8 @@ module _ (Y : RowedPresentation) (rowed : IsRowed Y) (big : 1 < Y.base.prime) (p
       joined-trans (joined-solve_right (word_of Y u) (word_of Y e) c) (joined-from_equal (flat Y) (append-nil (inv (word_of Y u))))
 
   commutator-joined_words : (u v e : State) → IsState Y Y.base.rank u → IsState Y Y.base.rank v → IsState Y Y.base.rank e
-      → product_by Y push (product_by Y push v u) e ≡ product_by Y push u v → Joined (flat Y) (word_of Y e) (comm (word_of Y u) (word_of Y v))
+      → product_by Y push (product_by Y push v u) e ≡ product_by Y push u v
+      → Joined (flat Y) (word_of Y e) (comm (word_of Y u) (word_of Y v))
   commutator-joined_words u v e h m n q =
       let a : List ℤ = word_of Y u in
       let b : List ℤ = word_of Y v in
@@ -135,7 +147,8 @@ module _ (Y : RowedPresentation) (rowed : IsRowed Y) (big : 1 < Y.base.prime) (p
   image-word : (f : List State) (i : ℕ) → i < length f → get_or (map (word_of Y) f) i [] ≡ word_of Y (get_or f i (identity Y Y.base.rank))
   image-word f i l =
       let c : length (map (word_of Y) f) ≡ length f = length-map f (word_of Y) in
-      get_or_default (map (word_of Y) f) i [] (word_of Y (identity Y Y.base.rank)) (omega arith) ∙ get_or-map (word_of Y) f i (identity Y Y.base.rank)
+      get_or_default (map (word_of Y) f) i [] (word_of Y (identity Y Y.base.rank)) (omega arith)
+      ∙ get_or-map (word_of Y) f i (identity Y Y.base.rank)
 
   value-joined : (f g : List State) (s : State) (w : List ℤ) → AreImages Y push f g → IsState Y Y.base.rank s → HasLetters (length f) w
       → Joined (flat Y) (word_of Y (evaluate_from Y push f g s w)) (word_of Y s ++ sub w (map (word_of Y) f))

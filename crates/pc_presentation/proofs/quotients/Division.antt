@@ -1,6 +1,7 @@
 -- Dividing in place: exponent after exponent is replaced by how often its generator has to be pushed, so that the pushes
 -- so far give the exponents so far of the dividend; the row of what they reach is subtracted at the end.
-use Rattle.std.proofs.Common.{◌≡◌, ◌≢◌, ℕ, suc, ◌+◌, ◌-◌, ◌%◌, ◌<◌, ◌≤◌, List, [], ◌∷◌, ◌++◌, get_or, length, replicate, take, append_assoc, refl, ap, ap₂, sym, ◌∙◌, subst, arith, inl, inr}
+use Rattle.std.proofs.Common.{◌≡◌, ◌≢◌, ℕ, suc, ◌+◌, ◌-◌, ◌%◌, ◌<◌, ◌≤◌, List, [], ◌∷◌, ◌++◌, get_or, length, replicate, take, append_assoc}
+use Rattle.std.proofs.Common.{refl, ap, ap₂, sym, ◌∙◌, subst, arith, inl, inr}
 use Rattle.std.proofs.Math.ListN.{set}
 use Rattle.std.proofs.lemmas.List.{append-nil, length-take-le, take_all, take_more_set, get_or-set_other}
 use Rattle.std.proofs.lemmas.Bool.{cases_lt}
@@ -19,7 +20,8 @@ use Rattle.pc_presentation.proofs.quotients.Quotients.{AfterCopies, push-copies,
 use Rattle.pc_presentation.proofs.quotients.TailedLaws.{rowed_presentation-is}
 use Rattle.pc_presentation.proofs.quotients.ElementConditions.{with_state-element, set-element}
 
-pub add_scaled-negative : (p : ℕ) (x y : List ℕ) → length x ≡ length y → AllBelow p x → add_scaled p (p - 1) y x ≡ row_sum p y (negative_row p x)
+pub add_scaled-negative : (p : ℕ) (x y : List ℕ) → length x ≡ length y → AllBelow p x
+    → add_scaled p (p - 1) y x ≡ row_sum p y (negative_row p x)
 add_scaled-negative p [] [] c h = refl
 add_scaled-negative p [] (b ∷ y) c h = absurd (omega arith)
 add_scaled-negative p (a ∷ x) [] c h = absurd (omega arith)
@@ -61,7 +63,8 @@ module _ (T : TailedPresentation) (push : State → ℕ → State) (from dividen
     big_prime = is.presentation.prime
 
     -- one exponent more
-    module _ (at out : Element) (j times : ℕ) (d : Divided T push from dividend at out j) (l : j < T.presentation.rank) (small : times < T.presentation.prime)
+    module _ (at out : Element) (j times : ℕ) (d : Divided T push from dividend at out j) (l : j < T.presentation.rank)
+        (small : times < T.presentation.prime)
         (sum : (get_or at.state.exponents j 0 + times) % T.presentation.prime ≡ get_or out.state.exponents j 0) where
       abbrev pub pushed : State
       pushed = push_word push at.state (replicate times j)
@@ -78,7 +81,8 @@ module _ (T : TailedPresentation) (push : State → ℕ → State) (from dividen
           let count : length out.state.exponents ≡ T.presentation.rank = d.out_element.state.exponents.count in
           let front : length (take j out.state.exponents) ≡ j = length-take-le j out.state.exponents (omega arith) in
           let place : 0 + length (take j out.state.exponents) ≡ j = omega arith in
-          let letters : spelled 0 (take (j + 1) (set out.state.exponents j times)) ≡ spelled 0 (take j out.state.exponents) ++ replicate times j =
+          let letters : spelled 0 (take (j + 1) (set out.state.exponents j times))
+          ≡ spelled 0 (take j out.state.exponents) ++ replicate times j =
           ap (spelled 0) (take_more_set e j times (omega arith))
           ∙ spelled-snoc 0 times (take j e)
           ∙ ap (λ (m : ℕ). spelled 0 (take j out.state.exponents) ++ replicate times m) place in
@@ -95,7 +99,8 @@ module _ (T : TailedPresentation) (push : State → ℕ → State) (from dividen
             (copies.own ∙ sum ∙ d.later j (omega arith))
       ]
 
-      pub division-step : (at' out' : Element) → at' ≡ with_state at pushed → out' ≡ with_state out (record { exponents = written; row = out.state.row })
+      pub division-step : (at' out' : Element) → at' ≡ with_state at pushed
+          → out' ≡ with_state out (record { exponents = written; row = out.state.row })
           → Divided T push from dividend at' out' (j + 1)
       division-step at' out' q r =
           subst (λ (z : Element). Divided T push from dividend z out' (j + 1)) (sym q)
@@ -111,7 +116,8 @@ module _ (T : TailedPresentation) (push : State → ℕ → State) (from dividen
           }))
 
     -- the same where a place is written in another way
-    pub division-next : (at out at' out' : Element) (i j times : ℕ) → i ≡ j → Divided T push from dividend at out j → j < T.presentation.rank
+    pub division-next : (at out at' out' : Element) (i j times : ℕ) → i ≡ j → Divided T push from dividend at out j
+        → j < T.presentation.rank
         → times < T.presentation.prime
         → (get_or at.state.exponents i 0 + times) % T.presentation.prime ≡ get_or out.state.exponents i 0
         → at' ≡ with_state at (push_word push at.state (replicate times i))
@@ -125,7 +131,8 @@ module _ (T : TailedPresentation) (push : State → ℕ → State) (from dividen
         (λ sum q r. division-step at out j times d l small sum at' out' q r)
 
     -- all exponents
-    module _ (dividend_element : IsElement T dividend) (at out : Element) (j : ℕ) (d : Divided T push from dividend at out j) (past : T.presentation.rank ≤ j) where
+    module _ (dividend_element : IsElement T dividend) (at out : Element) (j : ℕ) (d : Divided T push from dividend at out j)
+        (past : T.presentation.rank ≤ j) where
       abbrev pub row_left : List ℕ
       row_left = add_scaled T.presentation.prime (T.presentation.prime - 1) out.state.row at.state.row
 
@@ -135,14 +142,17 @@ module _ (T : TailedPresentation) (push : State → ℕ → State) (from dividen
           let o = d.out_element.state.row in
           add_scaled-negative T.presentation.prime at.state.row out.state.row (a.count ∙ sym o.count) a.below
 
-      pub quotient-made : product_by (rowed_presentation T) push from.state (record { exponents = out.state.exponents; row = row_left }) ≡ dividend.state
+      pub quotient-made : product_by (rowed_presentation T) push from.state (record { exponents = out.state.exponents; row = row_left })
+          ≡ dividend.state
       quotient-made =
           let p : ℕ = T.presentation.prime in
           let count : length out.state.exponents ≡ T.presentation.rank = d.out_element.state.exponents.count in
           let whole : push_word push from.state (spelled 0 out.state.exponents) ≡ at.state =
-          ap (λ (e : List ℕ). push_word push from.state (spelled 0 e)) (sym (take_all j out.state.exponents (omega arith))) ∙ sym d.reached in
+          ap (λ (e : List ℕ). push_word push from.state (spelled 0 e)) (sym (take_all j out.state.exponents (omega arith)))
+          ∙ sym d.reached in
           let same : at.state.exponents ≡ dividend.state.exponents =
-          same_exponents (rowed_presentation T) (rowed_presentation-is T is) big_prime push meaning at.state dividend.state d.at_element.state dividend_element.state
+          same_exponents (rowed_presentation T) (rowed_presentation-is T is) big_prime push meaning at.state dividend.state
+          d.at_element.state dividend_element.state
           (λ k l. d.agreed k (omega arith)) in
           let rows : row_sum T.presentation.prime at.state.row row_left ≡ dividend.state.row =
           ap (row_sum p at.state.row) row_left-is
@@ -155,8 +165,10 @@ module _ (T : TailedPresentation) (push : State → ℕ → State) (from dividen
       pub quotient-element : IsElement T (with_state out (record { exponents = out.state.exponents; row = row_left }))
       quotient-element =
           let two = big_prime in
-          let normal : IsNormal T.presentation.prime T.tails (row_sum T.presentation.prime out.state.row (negative_row T.presentation.prime at.state.row)) =
-          row_sum-normal T.presentation.prime T.tails out.state.row (negative_row T.presentation.prime at.state.row) (omega arith) d.out_element.state.row
+          let normal : IsNormal T.presentation.prime T.tails
+          (row_sum T.presentation.prime out.state.row (negative_row T.presentation.prime at.state.row)) =
+          row_sum-normal T.presentation.prime T.tails out.state.row (negative_row T.presentation.prime at.state.row)
+          (omega arith) d.out_element.state.row
           (negative_row-normal T.presentation.prime T.tails at.state.row (omega arith) d.at_element.state.row) in
           with_state-element T out d.out_element (record { exponents = out.state.exponents; row = row_left }) (record {
             exponents = d.out_element.state.exponents;
@@ -171,6 +183,10 @@ module _ (T : TailedPresentation) (push : State → ℕ → State) (from dividen
           let same : out' ≡ end =
           r
           ∙ ap (λ (m : ℕ). with_state out (record { exponents = out.state.exponents; row = add_scaled m (k - 1) out.state.row x })) a
-          ∙ ap (λ (m : ℕ). with_state out (record { exponents = out.state.exponents; row = add_scaled T.presentation.prime (m - 1) out.state.row x })) b
-          ∙ ap (λ (y : List ℕ). with_state out (record { exponents = out.state.exponents; row = add_scaled T.presentation.prime (T.presentation.prime - 1) out.state.row y })) e in
-          subst (λ (z : Element). IsElement T z × (product_by (rowed_presentation T) push from.state z.state ≡ dividend.state)) (sym same) (quotient-element, quotient-made)
+          ∙ ap (λ (m : ℕ). with_state out
+          (record { exponents = out.state.exponents; row = add_scaled T.presentation.prime (m - 1) out.state.row x })) b
+          ∙ ap (λ (y : List ℕ). with_state out
+          (record { exponents = out.state.exponents; row = add_scaled T.presentation.prime (T.presentation.prime - 1) out.state.row y }))
+          e in
+          subst (λ (z : Element). IsElement T z × (product_by (rowed_presentation T) push from.state z.state ≡ dividend.state)) (sym same)
+          (quotient-element, quotient-made)

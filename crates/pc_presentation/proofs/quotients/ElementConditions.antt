@@ -1,6 +1,7 @@
 -- What keeps an element one of its presentation: exponents below the prime, cleared exponents, rows of tails, and pushes of
 -- a collector.
-use Rattle.std.proofs.Common.{◌≡◌, ℕ, zero, suc, ◌-◌, ◌<◌, ◌≤◌, Option, List, [], ◌∷◌, ◌++◌, get_or, length, replicate, take, ap, ◌∙◌, arith}
+use Rattle.std.proofs.Common.{◌≡◌, ℕ, zero, suc, ◌-◌, ◌<◌, ◌≤◌, Option, List, [], ◌∷◌, ◌++◌, get_or, length, replicate, take, ap, ◌∙◌}
+use Rattle.std.proofs.Common.{arith}
 use Rattle.std.proofs.Math.ListN.{set}
 use Rattle.std.proofs.lemmas.List.{length-set, length-replicate}
 use Rattle.fp_rows.proofs.BelowLaws.{AllBelow-set, AllBelow-append, AllBelow-take}
@@ -37,7 +38,8 @@ module _ (T : TailedPresentation) (e : Element) (h : IsElement T e) where
   pub with_state-element : (s : State) → IsState (rowed_presentation T) T.presentation.rank s → IsElement T (with_state e s)
   with_state-element s i = record { presentation = h.presentation; prime = h.prime; state = i }
 
-  pub set-element : (i x : ℕ) → x < T.presentation.prime → IsElement T (with_state e (record { exponents = set e.state.exponents i x; row = e.state.row }))
+  pub set-element : (i x : ℕ) → x < T.presentation.prime
+      → IsElement T (with_state e (record { exponents = set e.state.exponents i x; row = e.state.row }))
   set-element i x l = with_state-element (record { exponents = set e.state.exponents i x; row = e.state.row }) (record {
     exponents = record {
       count = length-set e.state.exponents i x ∙ h.state.exponents.count;
@@ -61,7 +63,8 @@ module _ (T : TailedPresentation) (e : Element) (h : IsElement T e) where
         row = h.state.row;
       })
 
-  pub add_row-element : (x : List ℕ) → IsNormal T.presentation.prime T.tails x → IsElement T (with_state e (add_row T.presentation.prime x e.state))
+  pub add_row-element : (x : List ℕ) → IsNormal T.presentation.prime T.tails x
+      → IsElement T (with_state e (add_row T.presentation.prime x e.state))
   add_row-element x n =
       let one : 1 ≤ T.presentation.prime = prime-positive in
       with_state-element (add_row T.presentation.prime x e.state) (record {

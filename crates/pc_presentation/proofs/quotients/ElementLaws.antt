@@ -1,5 +1,6 @@
 -- What the calls on elements do to their lists: a tail adds a row with one 1, and a row is added place by place.
-use Rattle.std.proofs.Common.{◌≡◌, ℕ, zero, suc, ◌+◌, ◌-◌, ◌%◌, ◌<◌, ◌≤◌, Bool, false, cond, eqb, List, [], ◌∷◌, ◌++◌, get_or, length, replicate, refl, ap, ap₂, sym, ◌∙◌, subst, arith, inl, inr, add-zero, one-mul, mod-eq_of_lt}
+use Rattle.std.proofs.Common.{◌≡◌, ℕ, zero, suc, ◌+◌, ◌-◌, ◌%◌, ◌<◌, ◌≤◌, Bool, false, cond, eqb, List, [], ◌∷◌, ◌++◌, get_or, length}
+use Rattle.std.proofs.Common.{replicate, refl, ap, ap₂, sym, ◌∙◌, subst, arith, inl, inr, add-zero, one-mul, mod-eq_of_lt}
 use Rattle.std.proofs.Math.ListN.{set}
 use Rattle.std.proofs.lemmas.Bool.Decides.{eqb_tells}
 use Rattle.pq_base.specs.Table.{AllBelow}

@@ -43,7 +43,8 @@ syllables-left f e e' k w d h q =
     ∙ ap (with_state e) (sym (push_word-append f e.state (replicate s.exponent (s.generator - 1)) (places_of (drop (k + 1) w))))
     ∙ ap (λ (v : List Syllable). after f e (places_of v)) (sym (drop_more w k d h))
 
-pub no_syllables-left : (f : State → ℕ → State) (e : Element) (k : ℕ) (w : List Syllable) → length w ≤ k → after f e (places_of (drop k w)) ≡ e
+pub no_syllables-left : (f : State → ℕ → State) (e : Element) (k : ℕ) (w : List Syllable) → length w ≤ k
+    → after f e (places_of (drop k w)) ≡ e
 no_syllables-left f e k w h = ap (λ (v : List Syllable). after f e (places_of v)) (drop_of_length-le w h)
 
 -- a row that was added
@@ -51,5 +52,6 @@ pub row_added : (T : TailedPresentation) (m e' : Element) (x y : List ℕ) → I
     → e' ≡ with_state m (add_row m.prime x m.state) → IsElement T e'
 row_added T m e' x y h n q r =
     subst (λ (z : Element). IsElement T z)
-    (sym (r ∙ ap (λ (k : ℕ). with_state m (add_row k x m.state)) h.prime ∙ ap (λ (z : List ℕ). with_state m (add_row T.presentation.prime z m.state)) q))
+    (sym (r ∙ ap (λ (k : ℕ). with_state m (add_row k x m.state)) h.prime
+    ∙ ap (λ (z : List ℕ). with_state m (add_row T.presentation.prime z m.state)) q))
     (add_row-element T m h y n)

@@ -1,6 +1,7 @@
 -- Over any collector each state is the product behind s of exactly one state: its exponents are found one after the
 -- other, since a push changes no earlier exponent and adds one to its own.
-use Rattle.std.proofs.Common.{◌≡◌, ℕ, zero, suc, ◌+◌, ◌-◌, ◌%◌, ◌<◌, List, [], ◌∷◌, get_or, length, replicate, refl, ap, sym, ◌∙◌, subst, arith, inl, inr, mod-eq_of_lt}
+use Rattle.std.proofs.Common.{◌≡◌, ℕ, zero, suc, ◌+◌, ◌-◌, ◌%◌, ◌<◌, List, [], ◌∷◌, get_or, length, replicate, refl, ap, sym, ◌∙◌, subst}
+use Rattle.std.proofs.Common.{arith, inl, inr, mod-eq_of_lt}
 use Rattle.std.proofs.lemmas.List.{ext_get_or}
 use Rattle.std.proofs.lemmas.Bool.{cases_lt}
 use Rattle.std.proofs.Math.Nat.{add-mod-mod, mod-add-mod, add-mod_left, add-zero}
@@ -11,7 +12,8 @@ use Rattle.fp_rows.specs.Rows.{negative_row}
 use Rattle.pc_presentation.specs.Rowed.{RowedPresentation, IsRowed, row_sum}
 use Rattle.pc_presentation.specs.Collection.{State, IsState, spelled, push_word}
 use Rattle.pc_presentation.specs.Arithmetic.{IsMeaning, product_by, IsQuotient}
-use Rattle.pc_presentation.proofs.rows.RowLaws.{row_sum-comm, row_sum-assoc, row_sum-zeros, row_sum-normal, negative_row-normal, row_sum-negative_row}
+use Rattle.pc_presentation.proofs.rows.RowLaws.{row_sum-comm, row_sum-assoc, row_sum-zeros, row_sum-normal, negative_row-normal}
+use Rattle.pc_presentation.proofs.rows.RowLaws.{row_sum-negative_row}
 use Rattle.pc_presentation.proofs.collecting.PushLaws.{push_word-append}
 use Rattle.pc_presentation.proofs.collecting.FinalExponents.{earlier_exponents_are_final}
 
@@ -81,7 +83,8 @@ module _ (Y : RowedPresentation) (rowed : IsRowed Y) (big : 1 < Y.base.prime) (p
     pub state : IsState Y Y.base.rank t
     pub earlier : (j : ℕ) → j < k → get_or t.exponents j 0 ≡ get_or s.exponents j 0
 
-  pub push-spelled : (k : ℕ) (e : List ℕ) (s : State) → k + length e ≡ Y.base.rank → IsState Y Y.base.rank s → AfterSpelled k s (push_word push s (spelled k e))
+  pub push-spelled : (k : ℕ) (e : List ℕ) (s : State) → k + length e ≡ Y.base.rank → IsState Y Y.base.rank s
+      → AfterSpelled k s (push_word push s (spelled k e))
   push-spelled k [] s c h = record { state = h; earlier = λ j m. refl }
   push-spelled k (x ∷ e) s c h =
       let r = push-copies x k s h (omega arith) in
@@ -91,7 +94,8 @@ module _ (Y : RowedPresentation) (rowed : IsRowed Y) (big : 1 < Y.base.prime) (p
         earlier = λ j m. z.earlier j (omega arith) ∙ r.earlier j m;
       })
 
-  pub same_exponents : (s t : State) → IsState Y Y.base.rank s → IsState Y Y.base.rank t → ((j : ℕ) → j < Y.base.rank → get_or s.exponents j 0 ≡ get_or t.exponents j 0) → s.exponents ≡ t.exponents
+  pub same_exponents : (s t : State) → IsState Y Y.base.rank s → IsState Y Y.base.rank t
+      → ((j : ℕ) → j < Y.base.rank → get_or s.exponents j 0 ≡ get_or t.exponents j 0) → s.exponents ≡ t.exponents
   same_exponents s t h i e =
       let c = h.exponents.count in
       let d = i.exponents.count in
@@ -106,7 +110,8 @@ module _ (Y : RowedPresentation) (rowed : IsRowed Y) (big : 1 < Y.base.prime) (p
 
   leads : (d i : ℕ) (s t : State) → i + d ≡ Y.base.rank → IsState Y Y.base.rank s → IsState Y Y.base.rank t
       → ((j : ℕ) → j < i → get_or s.exponents j 0 ≡ get_or t.exponents j 0) → Leads i s t
-  leads zero i s t c h v agree = record { exponents = []; count = c; below = tt; reaches = same_exponents s t h v (λ j l. agree j (omega arith)) }
+  leads zero i s t c h v agree =
+      record { exponents = []; count = c; below = tt; reaches = same_exponents s t h v (λ j l. agree j (omega arith)) }
   leads (suc d) i s t c h v agree =
       let p : ℕ = Y.base.prime in
       let a : ℕ = get_or s.exponents i 0 in
@@ -117,9 +122,11 @@ module _ (Y : RowedPresentation) (rowed : IsRowed Y) (big : 1 < Y.base.prime) (p
       let xl : x < Y.base.prime = omega arith in
       let r = push-copies x i s h (omega arith) in
       let own : get_or (push_word push s (replicate x i)).exponents i 0 ≡ get_or t.exponents i 0 = r.own ∙ difference-added p a b al bl in
-      let agree' : (j : ℕ) → j < suc i → get_or (push_word push s (replicate x i)).exponents j 0 ≡ get_or t.exponents j 0 = λ j m. elim (cases_lt j i) [
+      let agree' : (j : ℕ) → j < suc i → get_or (push_word push s (replicate x i)).exponents j 0 ≡ get_or t.exponents j 0 =
+      λ j m. elim (cases_lt j i) [
         | inl l ↦ r.earlier j l ∙ agree j l
-        | inr l ↦ let e : i ≡ j = omega arith in subst (λ (k : ℕ). get_or (push_word push s (replicate x i)).exponents k 0 ≡ get_or t.exponents k 0) e own
+        | inr l ↦ let e : i ≡ j = omega arith in
+            subst (λ (k : ℕ). get_or (push_word push s (replicate x i)).exponents k 0 ≡ get_or t.exponents k 0) e own
       ] in
       let z = leads d (suc i) (push_word push s (replicate x i)) t (omega arith) r.state v agree' in
       let zc = z.count in
@@ -152,11 +159,13 @@ module _ (Y : RowedPresentation) (rowed : IsRowed Y) (big : 1 < Y.base.prime) (p
         };
         product =
             ap (λ (e : List ℕ). record { exponents = e; row = row_sum Y.base.prime end.row row }) z.reaches
-            ∙ ap (λ (x : List ℕ). record { exponents = t.exponents; row = x }) (row_difference Y.base.prime Y.width end.row t.row ends.row v.row);
+            ∙ ap (λ (x : List ℕ). record { exponents = t.exponents; row = x })
+            (row_difference Y.base.prime Y.width end.row t.row ends.row v.row);
       }
 
   -- and only one
-  same_leads : (i : ℕ) (e f : List ℕ) (s : State) → i + length e ≡ Y.base.rank → i + length f ≡ Y.base.rank → AllBelow Y.base.prime e → AllBelow Y.base.prime f
+  same_leads : (i : ℕ) (e f : List ℕ) (s : State) → i + length e ≡ Y.base.rank → i + length f ≡ Y.base.rank → AllBelow Y.base.prime e
+      → AllBelow Y.base.prime f
       → IsState Y Y.base.rank s → (push_word push s (spelled i e)).exponents ≡ (push_word push s (spelled i f)).exponents → e ≡ f
   same_leads i [] [] s c d a b h q = refl
   same_leads i [] (y ∷ f) s c d a b h q = absurd (omega arith)
@@ -187,19 +196,25 @@ module _ (Y : RowedPresentation) (rowed : IsRowed Y) (big : 1 < Y.base.prime) (p
       let ec = v.exponents.count in
       let fc = w.exponents.count in
       let exponents_are : e.exponents ≡ f.exponents =
-      same_leads 0 e.exponents f.exponents s (omega arith) (omega arith) v.exponents.below w.exponents.below h (ap (λ (z : State). z.exponents) q) in
+      same_leads 0 e.exponents f.exponents s (omega arith) (omega arith) v.exponents.below w.exponents.below h
+      (ap (λ (z : State). z.exponents) q) in
       let end : State = push_word push s (spelled 0 e.exponents) in
       let ends : IsState Y Y.base.rank (push_word push s (spelled 0 e.exponents)) = (push-spelled 0 e.exponents s (omega arith) h).state in
       let rows : row_sum Y.base.prime end.row e.row ≡ row_sum Y.base.prime end.row f.row =
-      ap (λ (z : State). z.row) q ∙ ap (λ (u : List ℕ). row_sum Y.base.prime (push_word push s (spelled 0 u)).row f.row) (sym exponents_are) in
+      ap (λ (z : State). z.row) q
+      ∙ ap (λ (u : List ℕ). row_sum Y.base.prime (push_word push s (spelled 0 u)).row f.row) (sym exponents_are) in
       ap (λ (u : List ℕ). record { exponents = u; row = e.row }) exponents_are
-      ∙ ap (λ (x : List ℕ). record { exponents = f.exponents; row = x }) (row_sum-cancel Y.base.prime Y.width end.row e.row f.row ends.row v.row w.row rows)
+      ∙ ap (λ (x : List ℕ). record { exponents = f.exponents; row = x })
+      (row_sum-cancel Y.base.prime Y.width end.row e.row f.row ends.row v.row w.row rows)
 
   pub product-state : (s t : State) → IsState Y Y.base.rank s → IsState Y Y.base.rank t → IsState Y Y.base.rank (product_by Y push s t)
   product-state s t h v =
       let c = v.exponents.count in
       let ends = (push-spelled 0 t.exponents s (omega arith) h).state in
-      record { exponents = ends.exponents; row = row_sum-normal Y.base.prime Y.width (push_word push s (spelled 0 t.exponents)).row t.row (omega arith) ends.row v.row }
+      record {
+        exponents = ends.exponents;
+        row = row_sum-normal Y.base.prime Y.width (push_word push s (spelled 0 t.exponents)).row t.row (omega arith) ends.row v.row;
+      }
 
   pub is_quotient : (s t : State) → IsState Y Y.base.rank s → IsState Y Y.base.rank t → (e : State) × IsQuotient Y push s t e
   is_quotient s t h v =

@@ -1,6 +1,7 @@
 -- A presentation with tails is one with rows, and the zero state is an element of it. The letters of a sparse word are
 -- those of its exponents.
-use Rattle.std.proofs.Common.{◌≡◌, ℕ, zero, suc, ◌+◌, ◌-◌, ◌<◌, ◌≤◌, List, [], ◌∷◌, ◌++◌, get_or, length, replicate, refl, ap, sym, ◌∙◌, subst, arith}
+use Rattle.std.proofs.Common.{◌≡◌, ℕ, zero, suc, ◌+◌, ◌-◌, ◌<◌, ◌≤◌, List, [], ◌∷◌, ◌++◌, get_or, length, replicate, refl, ap, sym, ◌∙◌}
+use Rattle.std.proofs.Common.{subst, arith}
 use Rattle.pq_base.specs.Presentation.{IsNormal, power_side, commutator_side}
 use Rattle.pc_presentation.specs.declared.syllable.Syllable.{Syllable}
 use Rattle.pc_presentation.specs.declared.relation.Relation.TheVariants.{Power, Commutator}
@@ -30,8 +31,10 @@ module _ (T : TailedPresentation) (is : IsTailedPresentation T) where
         commutator_count = shape.row_count;
         commutator_counts = shape.row_lengths;
         commutator_rows = λ j i h l.
-            subst (λ (k : ℕ). IsNormal T.presentation.prime T.tails (get_or (get_or (tail_rows T).commutators j []) k [])) (sym (one_less i))
-            (subst (λ (k : ℕ). IsNormal T.presentation.prime T.tails (get_or (get_or (tail_rows T).commutators k []) (suc i - 1) [])) (sym (one_less j))
+            subst (λ (k : ℕ). IsNormal T.presentation.prime T.tails (get_or (get_or (tail_rows T).commutators j []) k []))
+            (sym (one_less i))
+            (subst (λ (k : ℕ). IsNormal T.presentation.prime T.tails (get_or (get_or (tail_rows T).commutators k []) (suc i - 1) []))
+            (sym (one_less j))
             (tail_rows-normal T is two (Commutator (suc j) (suc i)) (omega arith, omega arith, omega arith)));
       }
 
@@ -58,9 +61,12 @@ module _ (T : TailedPresentation) (is : IsTailedPresentation T) where
   commutator_side-with_tail j i h l =
       let relation : IsRelation T.presentation.rank (Commutator (suc j) (suc i)) = (omega arith, omega arith, omega arith) in
       let make : List ℕ → List ℕ → Configuration = λ e x. record { word = spelled (suc j) e; row = x } in
-      ap (make (right_side T.presentation (Commutator (suc j) (suc i)))) (sym (entry_at-tail_rows T is (Commutator (suc j) (suc i)) relation))
-      ∙ sym (ap (λ (k : ℕ). make (get_or (get_or T.presentation.commutators k []) (suc i - 1) []) (get_or (get_or (tail_rows T).commutators k []) (suc i - 1) [])) (one_less j))
-      ∙ sym (ap (λ (k : ℕ). make (get_or (get_or T.presentation.commutators j []) k []) (get_or (get_or (tail_rows T).commutators j []) k [])) (one_less i))
+      ap (make (right_side T.presentation (Commutator (suc j) (suc i))))
+      (sym (entry_at-tail_rows T is (Commutator (suc j) (suc i)) relation))
+      ∙ sym (ap (λ (k : ℕ). make (get_or (get_or T.presentation.commutators k []) (suc i - 1) [])
+      (get_or (get_or (tail_rows T).commutators k []) (suc i - 1) [])) (one_less j))
+      ∙ sym (ap (λ (k : ℕ). make (get_or (get_or T.presentation.commutators j []) k [])
+      (get_or (get_or (tail_rows T).commutators j []) k [])) (one_less i))
 
 -- the letters of a sparse word
 pub places_of-syllables_of : (k : ℕ) (e : List ℕ) → places_of (syllables_of k e) ≡ spelled k e
@@ -75,11 +81,13 @@ pub generators-syllables_of : (n k : ℕ) (e : List ℕ) → k + length e ≤ n 
 generators-syllables_of n k [] h = λ m d l. absurd (omega arith)
 generators-syllables_of n k (zero ∷ es) h = generators-syllables_of n (suc k) es (omega arith)
 generators-syllables_of n k (suc e ∷ es) h =
-    All-cons (λ (s : Syllable). (1 ≤ s.generator) × (s.generator ≤ n)) (syllable (suc k) (suc e)) (syllables_of (suc k) es) (omega arith, omega arith)
+    All-cons (λ (s : Syllable). (1 ≤ s.generator) × (s.generator ≤ n)) (syllable (suc k) (suc e)) (syllables_of (suc k) es)
+    (omega arith, omega arith)
     (generators-syllables_of n (suc k) es (omega arith))
 
 pub later-syllables_of : (j k : ℕ) (e : List ℕ) → j ≤ k → AreLater j (syllables_of k e)
 later-syllables_of j k [] h = λ m d l. absurd (omega arith)
 later-syllables_of j k (zero ∷ es) h = later-syllables_of j (suc k) es (omega arith)
 later-syllables_of j k (suc e ∷ es) h =
-    All-cons (λ (s : Syllable). j < s.generator) (syllable (suc k) (suc e)) (syllables_of (suc k) es) (omega arith) (later-syllables_of j (suc k) es (omega arith))
+    All-cons (λ (s : Syllable). j < s.generator) (syllable (suc k) (suc e)) (syllables_of (suc k) es) (omega arith)
+    (later-syllables_of j (suc k) es (omega arith))

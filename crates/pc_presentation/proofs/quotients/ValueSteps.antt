@@ -20,12 +20,15 @@ module _ (T : TailedPresentation) (push : State → ℕ → State) (f g : List E
   value-element (negsuc i) h l = let c = h.count in h.inverses i (one_of T) (omega arith)
 
   letter-evaluated : (e : Element) (k : ℤ) (w : List ℤ) → IsLetter (length f) k
-      → evaluated e (k ∷ w) ≡ evaluated (with_state e (product_by (rowed_presentation T) push e.state (letter_value f g (one_of T) k).state)) w
+      → evaluated e (k ∷ w)
+      ≡ evaluated (with_state e (product_by (rowed_presentation T) push e.state (letter_value f g (one_of T) k).state)) w
   letter-evaluated e (pos zero) w l = absurd l
   letter-evaluated e (pos (suc i)) w l =
-      ap (λ (s : State). evaluated (with_state e (product_by (rowed_presentation T) push e.state s)) w) (get_or-map (λ (x : Element). x.state) f i (one_of T))
+      ap (λ (s : State). evaluated (with_state e (product_by (rowed_presentation T) push e.state s)) w)
+      (get_or-map (λ (x : Element). x.state) f i (one_of T))
   letter-evaluated e (negsuc i) w l =
-      ap (λ (s : State). evaluated (with_state e (product_by (rowed_presentation T) push e.state s)) w) (get_or-map (λ (x : Element). x.state) g i (one_of T))
+      ap (λ (s : State). evaluated (with_state e (product_by (rowed_presentation T) push e.state s)) w)
+      (get_or-map (λ (x : Element). x.state) g i (one_of T))
 
   pub letters-left : (e e' x : Element) (j : ℕ) (w : List ℤ) (d : ℤ) → j < length w → IsLetter (length f) (get_or w j d)
       → x ≡ letter_value f g (one_of T) (get_or w j d)

@@ -1,12 +1,14 @@
 -- Where states have words such that the word of a product is joined to the words of its factors, the word of a value is
 -- joined to the word that was evaluated, under the words of the images.
-use Rattle.std.proofs.Common.{◌≡◌, ℕ, zero, suc, ◌<◌, ℤ, pos, negsuc, List, [], ◌∷◌, ◌++◌, get_or, length, map, ap, sym, ◌∙◌, arith, append_assoc}
+use Rattle.std.proofs.Common.{◌≡◌, ℕ, zero, suc, ◌<◌, ℤ, pos, negsuc, List, [], ◌∷◌, ◌++◌, get_or, length, map, ap, sym, ◌∙◌, arith}
+use Rattle.std.proofs.Common.{append_assoc}
 use Rattle.std.proofs.lemmas.List.{append-nil, get_or_default, length-map}
 use Rattle.std.proofs.Math.ListN.{get_or-map}
 use Rattle.pq_base.specs.SignedWord.{inv, sub, HasLetters}
 use Rattle.pq_base.specs.Presentation.{Presentation}
 use Rattle.pq_base.specs.Joined.{Joined}
-use Rattle.pq_base.proofs.words.JoinedLaws.{joined-sym, joined-trans, joined-from_equal, joined-append_left, joined-append_right, joined-solve_right}
+use Rattle.pq_base.proofs.words.JoinedLaws.{joined-sym, joined-trans, joined-from_equal, joined-append_left, joined-append_right}
+use Rattle.pq_base.proofs.words.JoinedLaws.{joined-solve_right}
 use Rattle.pc_presentation.specs.Rowed.{RowedPresentation, IsRowed}
 use Rattle.pc_presentation.specs.Collection.{State, IsState, identity}
 use Rattle.pc_presentation.specs.Arithmetic.{IsMeaning, product_by, evaluate_from, AreImages}
@@ -26,7 +28,8 @@ module _ (Y : RowedPresentation) (rowed : IsRowed Y) (big : 1 < Y.base.prime) (p
       value-state f g (product_by Y push s y) w images (product-state Y rowed big push meaning s y h (images.inverse_states i l.0)) l.1
 
   module _ (Q : Presentation) (word : State → List ℤ) (one : word (identity Y Y.base.rank) ≡ [])
-      (products : (u v : State) → IsState Y Y.base.rank u → IsState Y Y.base.rank v → Joined Q (word (product_by Y push u v)) (word u ++ word v)) where
+      (products : (u v : State) → IsState Y Y.base.rank u → IsState Y Y.base.rank v
+      → Joined Q (word (product_by Y push u v)) (word u ++ word v)) where
     pub inverse-joined : (u e : State) → IsState Y Y.base.rank u → IsState Y Y.base.rank e → product_by Y push u e ≡ identity Y Y.base.rank
         → Joined Q (word e) (inv (word u))
     inverse-joined u e h m q =
@@ -38,7 +41,8 @@ module _ (Y : RowedPresentation) (rowed : IsRowed Y) (big : 1 < Y.base.prime) (p
         let c : length (map word f) ≡ length f = length-map f word in
         get_or_default (map word f) i [] (word (identity Y Y.base.rank)) (omega arith) ∙ get_or-map word f i (identity Y Y.base.rank)
 
-    pub value-joined : (f g : List State) (s : State) (w : List ℤ) → AreImages Y push f g → IsState Y Y.base.rank s → HasLetters (length f) w
+    pub value-joined : (f g : List State) (s : State) (w : List ℤ) → AreImages Y push f g → IsState Y Y.base.rank s
+        → HasLetters (length f) w
         → Joined Q (word (evaluate_from Y push f g s w)) (word s ++ sub w (map word f))
     value-joined f g s [] images h l = joined-from_equal Q (sym (append-nil (word s)))
     value-joined f g s (pos zero ∷ w) images h l = absurd l.0

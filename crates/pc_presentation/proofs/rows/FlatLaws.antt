@@ -1,12 +1,14 @@
 -- The flat reading of a presentation with rows is a presentation: a right side is followed by its row, and the right
 -- sides of tails are empty. A presentation without rows is its own flat reading.
-use Rattle.std.proofs.Common.{◌≡◌, ℕ, zero, suc, ◌+◌, ◌-◌, ◌<◌, List, [], ◌∷◌, ◌++◌, get_or, length, map, replicate, refl, ap, sym, ◌∙◌, subst, arith, inl, inr, length-append}
+use Rattle.std.proofs.Common.{◌≡◌, ℕ, zero, suc, ◌+◌, ◌-◌, ◌<◌, List, [], ◌∷◌, ◌++◌, get_or, length, map, replicate, refl, ap, sym, ◌∙◌}
+use Rattle.std.proofs.Common.{subst, arith, inl, inr, length-append}
 use Rattle.std.proofs.lemmas.List.{append-nil, length-replicate, length-map, get_or-replicate, get_or_append_left, get_or-append-add}
 use Rattle.std.proofs.lemmas.Bool.{cases_lt}
 use Rattle.std.proofs.Math.ListN.{get_or-map}
 use Rattle.pq_base.specs.Presentation.{Presentation, IsPresentation, IsLaterSide, IsNormal, power_side, commutator_side}
 use Rattle.fp_rows.proofs.BelowLaws.{AllBelow-append}
-use Rattle.pc_presentation.specs.Rowed.{RowedPresentation, IsRowed, power_row, commutator_row, without_rows, followed_by, tables_followed_by, tail_powers, tail_commutators, flat}
+use Rattle.pc_presentation.specs.Rowed.{RowedPresentation, IsRowed, power_row, commutator_row, without_rows, followed_by}
+use Rattle.pc_presentation.specs.Rowed.{tables_followed_by, tail_powers, tail_commutators, flat}
 use Rattle.pc_presentation.proofs.rows.RowLaws.{AllBelow-zeros}
 
 -- lists followed by lists
@@ -15,7 +17,8 @@ length-followed_by [] ys e = refl
 length-followed_by (x ∷ xs) [] e = absurd (omega arith)
 length-followed_by (x ∷ xs) (y ∷ ys) e = ap suc (length-followed_by xs ys (omega arith))
 
-pub get_or-followed_by : (xs ys : List (List ℕ)) (i : ℕ) → length xs ≡ length ys → get_or (followed_by xs ys) i [] ≡ get_or xs i [] ++ get_or ys i []
+pub get_or-followed_by : (xs ys : List (List ℕ)) (i : ℕ) → length xs ≡ length ys
+    → get_or (followed_by xs ys) i [] ≡ get_or xs i [] ++ get_or ys i []
 get_or-followed_by [] [] i e = refl
 get_or-followed_by [] (y ∷ ys) i e = absurd (omega arith)
 get_or-followed_by (x ∷ xs) [] i e = absurd (omega arith)
@@ -100,13 +103,16 @@ module _ (Y : RowedPresentation) (rowed : IsRowed Y) where
       ap (λ (x : List (List ℕ)). get_or x i []) (flat_commutators j l)
       ∙ get_or-followed_by (get_or Y.base.commutators j []) (get_or Y.commutator_rows j []) i (same_row j l)
 
-  tail_commutators-flat : (t r : ℕ) → suc t + r ≡ Y.width → get_or (flat Y).commutators (Y.base.rank + t) [] ≡ replicate (Y.base.rank + t) (replicate r 0)
+  tail_commutators-flat : (t r : ℕ) → suc t + r ≡ Y.width
+      → get_or (flat Y).commutators (Y.base.rank + t) [] ≡ replicate (Y.base.rank + t) (replicate r 0)
   tail_commutators-flat t r e =
-      ap (λ (m : ℕ). get_or (tables_followed_by Y.base.commutators Y.commutator_rows ++ tail_commutators Y.base.rank Y.width) (m + t) []) (sym flat_commutators_count)
+      ap (λ (m : ℕ). get_or (tables_followed_by Y.base.commutators Y.commutator_rows ++ tail_commutators Y.base.rank Y.width) (m + t) [])
+      (sym flat_commutators_count)
       ∙ get_or-append-add (tables_followed_by Y.base.commutators Y.commutator_rows) (tail_commutators Y.base.rank Y.width) t []
       ∙ get_or-tail_commutators Y.base.rank Y.width t r e
 
-  pub commutator_side-tail : (t r i : ℕ) → suc t + r ≡ Y.width → i < Y.base.rank + t → commutator_side (flat Y) (Y.base.rank + t) i ≡ replicate r 0
+  pub commutator_side-tail : (t r i : ℕ) → suc t + r ≡ Y.width → i < Y.base.rank + t
+      → commutator_side (flat Y) (Y.base.rank + t) i ≡ replicate r 0
   commutator_side-tail t r i e l =
       ap (λ (x : List (List ℕ)). get_or x i []) (tail_commutators-flat t r e)
       ∙ get_or-replicate (Y.base.rank + t) i (replicate r 0) [] l
@@ -137,9 +143,11 @@ module _ (Y : RowedPresentation) (rowed : IsRowed Y) where
             let r : ℕ = Y.width - suc t in
             let e : Y.base.rank + t ≡ i = omega arith in
             subst (λ (m : ℕ). IsLaterSide (flat Y) m (power_side (flat Y) m)) e
-            (subst (λ (x : List ℕ). IsLaterSide (flat Y) (Y.base.rank + t) x) (sym (power_side-tail t r (omega arith))) (tail_side t r (omega arith)))
+            (subst (λ (x : List ℕ). IsLaterSide (flat Y) (Y.base.rank + t) x) (sym (power_side-tail t r (omega arith)))
+            (tail_side t r (omega arith)))
       ];
-      commutator_count = simp length-append (let c = flat_commutators_count in let d = length-tail_commutators Y.base.rank Y.width in omega arith);
+      commutator_count =
+          simp length-append (let c = flat_commutators_count in let d = length-tail_commutators Y.base.rank Y.width in omega arith);
       commutator_counts = λ j l. elim (cases_lt j Y.base.rank) [
         | inl h ↦
             ap length (flat_commutators j h)
@@ -155,13 +163,15 @@ module _ (Y : RowedPresentation) (rowed : IsRowed Y) where
       commutator_sides = λ j i l m. elim (cases_lt j Y.base.rank) [
         | inl h ↦
             subst (λ (e : List ℕ). IsLaterSide (flat Y) j e) (sym (commutator_side-flat j i h))
-            (followed_side j (commutator_side Y.base j i) (commutator_row Y j i) (rowed.base.commutator_sides j i h m) (rowed.commutator_rows j i h m))
+            (followed_side j (commutator_side Y.base j i) (commutator_row Y j i) (rowed.base.commutator_sides j i h m)
+            (rowed.commutator_rows j i h m))
         | inr h ↦
             let t : ℕ = j - Y.base.rank in
             let r : ℕ = Y.width - suc t in
             let e : Y.base.rank + t ≡ j = omega arith in
             subst (λ (a : ℕ). IsLaterSide (flat Y) a (commutator_side (flat Y) a i)) e
-            (subst (λ (x : List ℕ). IsLaterSide (flat Y) (Y.base.rank + t) x) (sym (commutator_side-tail t r i (omega arith) (omega arith))) (tail_side t r (omega arith)))
+            (subst (λ (x : List ℕ). IsLaterSide (flat Y) (Y.base.rank + t) x) (sym (commutator_side-tail t r i (omega arith) (omega arith)))
+            (tail_side t r (omega arith)))
       ];
     }
 
@@ -183,13 +193,15 @@ without_rows-rowed P h = record {
       ∙ length-map (get_or P.commutators j []) nothing ∙ h.commutator_counts j l;
   commutator_rows = λ j i l m.
       subst (λ (x : List ℕ). IsNormal P.prime 0 x)
-      (sym (ap (λ (r : List (List ℕ)). get_or r i []) (get_or-map (λ (r : List (List ℕ)). map nothing r) P.commutators j []) ∙ no_rows i (get_or P.commutators j [])))
+      (sym (ap (λ (r : List (List ℕ)). get_or r i []) (get_or-map (λ (r : List (List ℕ)). map nothing r) P.commutators j [])
+      ∙ no_rows i (get_or P.commutators j [])))
       (record { count = refl; below = tt });
 }
 
 followed_by-nothing : (xs : List (List ℕ)) → followed_by xs (map nothing xs) ≡ xs
 followed_by-nothing [] = refl
-followed_by-nothing (x ∷ xs) = ap (λ (y : List ℕ). y ∷ followed_by xs (map nothing xs)) (append-nil x) ∙ ap (λ (ys : List (List ℕ)). x ∷ ys) (followed_by-nothing xs)
+followed_by-nothing (x ∷ xs) =
+    ap (λ (y : List ℕ). y ∷ followed_by xs (map nothing xs)) (append-nil x) ∙ ap (λ (ys : List (List ℕ)). x ∷ ys) (followed_by-nothing xs)
 
 tables_followed_by-nothing : (xs : List (List (List ℕ))) → tables_followed_by xs (map (λ (r : List (List ℕ)). map nothing r) xs) ≡ xs
 tables_followed_by-nothing [] = refl
@@ -202,7 +214,8 @@ flat-without_rows P =
     let rank_is : P.rank + 0 ≡ P.rank = omega arith in
     let powers_is = append-nil (followed_by P.powers (map nothing P.powers)) ∙ followed_by-nothing P.powers in
     let commutators_is =
-    append-nil (tables_followed_by P.commutators (map (λ (r : List (List ℕ)). map nothing r) P.commutators)) ∙ tables_followed_by-nothing P.commutators in
+    append-nil (tables_followed_by P.commutators (map (λ (r : List (List ℕ)). map nothing r) P.commutators))
+    ∙ tables_followed_by-nothing P.commutators in
     ap (λ (n : ℕ). record {
       prime = P.prime;
       rank = n;

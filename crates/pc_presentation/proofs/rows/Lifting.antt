@@ -1,6 +1,7 @@
 -- Words that are joined in the base once their tails are left out are joined in the flat reading up to the word of a row.
 -- The proof goes along the chain of the base: a relator costs its row, a cancelling pair nothing.
-use Rattle.std.proofs.Common.{◌≡◌, ℕ, zero, suc, ◌+◌, ◌-◌, ◌<◌, ℤ, pos, negsuc, neg_ℤ, List, [], ◌∷◌, ◌++◌, get_or, replicate, ap, sym, ◌∙◌, subst, arith, inl, inr, append_assoc}
+use Rattle.std.proofs.Common.{◌≡◌, ℕ, zero, suc, ◌+◌, ◌-◌, ◌<◌, ℤ, pos, negsuc, neg_ℤ, List, [], ◌∷◌, ◌++◌, get_or, replicate, ap, sym, ◌∙◌}
+use Rattle.std.proofs.Common.{subst, arith, inl, inr, append_assoc}
 use Rattle.std.proofs.lemmas.List.{append-nil}
 use Rattle.std.proofs.lemmas.Bool.{cases_lt}
 use Rattle.pq_base.specs.SignedWord.{inv, copies, comm, sub, image_of, HasLetters}
@@ -10,9 +11,11 @@ use Rattle.pq_base.specs.Joined.{IsTrivial, Joined}
 use Rattle.pq_base.specs.Joined.IsTrivial.{pair, relator}
 use Rattle.pq_base.specs.Canonical.{unit}
 use Rattle.pq_base.proofs.words.WordLaws.{sub-append, inv-append, image_of-neg, word_from-zeros}
-use Rattle.pq_base.proofs.words.LetterLaws.{HasLetters-weaken, HasLetters-append, HasLetters-inv, HasLetters-relator, HasLetters-power_word, HasLetters-commutator_word}
+use Rattle.pq_base.proofs.words.LetterLaws.{HasLetters-weaken, HasLetters-append, HasLetters-inv, HasLetters-relator, HasLetters-power_word}
+use Rattle.pq_base.proofs.words.LetterLaws.{HasLetters-commutator_word}
 use Rattle.pq_base.proofs.words.ChainLaws.{IsWordEquivalence}
-use Rattle.pq_base.proofs.words.JoinedLaws.{joined-refl, joined-from_equal, joined-sym, joined-trans, joined-append, joined-append_left, joined-append_right, joined-inv, joined-solve_left, joined-induction, append-inv-joined}
+use Rattle.pq_base.proofs.words.JoinedLaws.{joined-refl, joined-from_equal, joined-sym, joined-trans, joined-append, joined-append_left}
+use Rattle.pq_base.proofs.words.JoinedLaws.{joined-append_right, joined-inv, joined-solve_left, joined-induction, append-inv-joined}
 use Rattle.pq_base.proofs.words.RangeLaws.{generators, sub-generators, HasLetters-sub_generators}
 use Rattle.pq_base.proofs.UnitLaws.{length-unit, unit-below, word_from-unit}
 use Rattle.fp_rows.specs.Rows.{negative_row}
@@ -68,7 +71,8 @@ module _ (Z : RowedPresentation) (is : IsRowed Z) (big : 1 < Z.base.prime) where
   }
 
   -- products and inverses keep them
-  pub up_to_row-append : {u v a b : List ℤ} → HasLetters (Z.base.rank + Z.width) b → IsUpToRow Z u v → IsUpToRow Z a b → IsUpToRow Z (u ++ a) (v ++ b)
+  pub up_to_row-append : {u v a b : List ℤ} → HasLetters (Z.base.rank + Z.width) b → IsUpToRow Z u v → IsUpToRow Z a b
+      → IsUpToRow Z (u ++ a) (v ++ b)
   up_to_row-append {v = v} {b = b} h r s =
       let x : List ℤ = word_from Z.base.rank r.row in
       let y : List ℤ = word_from Z.base.rank s.row in
@@ -139,7 +143,9 @@ module _ (Z : RowedPresentation) (is : IsRowed Z) (big : 1 < Z.base.prime) where
 
   -- along a chain of the base
   chain-up_to_row : {u v : List ℤ} → Joined Z.base u v → IsUpToRow Z (sub u (generators Z.base.rank)) (sub v (generators Z.base.rank))
-  chain-up_to_row c = joined-induction (λ (u v : List ℤ). IsUpToRow Z (sub u (generators Z.base.rank)) (sub v (generators Z.base.rank))) equivalence at_insertion c
+  chain-up_to_row c =
+      joined-induction (λ (u v : List ℤ). IsUpToRow Z (sub u (generators Z.base.rank)) (sub v (generators Z.base.rank))) equivalence
+      at_insertion c
     where
       equivalence : IsWordEquivalence (λ (u v : List ℤ). IsUpToRow Z (sub u (generators Z.base.rank)) (sub v (generators Z.base.rank)))
       equivalence = record {
@@ -189,7 +195,8 @@ module _ (Z : RowedPresentation) (is : IsRowed Z) (big : 1 < Z.base.prime) where
   pub without_tails : (w : List ℤ) → HasLetters (Z.base.rank + Z.width) w → IsUpToRow Z w (projected Z w)
   without_tails [] h = up_to_row-refl []
   without_tails (pos zero ∷ w) h = absurd h.0
-  without_tails (pos (suc k) ∷ w) h = up_to_row-append {u = letter k} (in_range_projected w) (letter-without_tails k h.0) (without_tails w h.1)
+  without_tails (pos (suc k) ∷ w) h =
+      up_to_row-append {u = letter k} (in_range_projected w) (letter-without_tails k h.0) (without_tails w h.1)
   without_tails (negsuc k ∷ w) h =
       let image : List ℤ = get_or (projection Z.base.rank Z.width) k [] in
       let here : IsUpToRow Z (letter k) image = letter-without_tails k h.0 in

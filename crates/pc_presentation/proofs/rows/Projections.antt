@@ -1,6 +1,7 @@
 -- Leaving out the tails carries each relator of the flat reading to a word that is trivial in the base, so it carries joined
 -- words to joined words, and levels of the series to levels.
-use Rattle.std.proofs.Common.{◌≡◌, ℕ, zero, suc, ◌+◌, ◌-◌, ◌<◌, ◌≤◌, ℤ, List, [], ◌∷◌, ◌++◌, get_or, length, replicate, refl, ap, sym, ◌∙◌, subst, arith, inl, inr}
+use Rattle.std.proofs.Common.{◌≡◌, ℕ, zero, suc, ◌+◌, ◌-◌, ◌<◌, ◌≤◌, ℤ, List, [], ◌∷◌, ◌++◌, get_or, length, replicate, refl, ap, sym, ◌∙◌}
+use Rattle.std.proofs.Common.{subst, arith, inl, inr}
 use Rattle.std.proofs.Math.Nat.{zero-add}
 use Rattle.std.proofs.lemmas.List.{append-nil, get_or_append_left, get_or-append-add}
 use Rattle.std.proofs.lemmas.Bool.{cases_lt}
@@ -11,8 +12,10 @@ use Rattle.pq_base.specs.Presentation.IsRelatorOf.{power_relator, commutator_rel
 use Rattle.pq_base.specs.Joined.{Joined}
 use Rattle.pq_base.specs.Series.{InSeries}
 use Rattle.pq_base.proofs.words.WordLaws.{sub-append, sub-inv, sub-copies, sub-comm, sub-letter, copies-nil}
-use Rattle.pq_base.proofs.words.LetterLaws.{sub_same, HasLetters-sub, HasLetters-letter, HasLetters-copies, HasLetters-comm, HasLetters-normal_word, HasLetters-power_word, HasLetters-commutator_word}
-use Rattle.pq_base.proofs.words.JoinedLaws.{joined-from_equal, joined-trans, joined-quotient, inv-append-joined, power-joined, commutator-joined}
+use Rattle.pq_base.proofs.words.LetterLaws.{sub_same, HasLetters-sub, HasLetters-letter, HasLetters-copies, HasLetters-comm}
+use Rattle.pq_base.proofs.words.LetterLaws.{HasLetters-normal_word, HasLetters-power_word, HasLetters-commutator_word}
+use Rattle.pq_base.proofs.words.JoinedLaws.{joined-from_equal, joined-trans, joined-quotient, inv-append-joined, power-joined}
+use Rattle.pq_base.proofs.words.JoinedLaws.{commutator-joined}
 use Rattle.pq_base.proofs.words.RangeLaws.{generators, get_or-generators, sub-generators}
 use Rattle.pq_base.proofs.words.WordGroup.{joined-sub}
 use Rattle.pq_base.proofs.CarryLaws.{series-sub}

@@ -1,6 +1,7 @@
 -- In the flat reading of a presentation with rows the word of a row commutes with every word over the generators and the
 -- tails, multiples of rows are powers of their words, and the inverse is the word of the negative row.
-use Rattle.std.proofs.Common.{◌≡◌, ℕ, zero, suc, ◌+◌, ◌-◌, ◌%◌, ◌<◌, ℤ, List, [], ◌∷◌, ◌++◌, length, refl, ap, sym, ◌∙◌, subst, arith, inl, inr}
+use Rattle.std.proofs.Common.{◌≡◌, ℕ, zero, suc, ◌+◌, ◌-◌, ◌%◌, ◌<◌, ℤ, List, [], ◌∷◌, ◌++◌, length, refl, ap, sym, ◌∙◌, subst, arith, inl}
+use Rattle.std.proofs.Common.{inr}
 use Rattle.std.proofs.lemmas.List.{append-nil}
 use Rattle.std.proofs.lemmas.Bool.{cases_lt}
 use Rattle.fp_rows.specs.Rows.{add_rows, scale_row, negative_row}
@@ -46,7 +47,8 @@ module _ (Z : RowedPresentation) (is : IsRowed Z) where
     | inr h ↦
         let t : ℕ = k - Z.base.rank in
         let place : Z.base.rank + t ≡ k = omega arith in
-        let word : word_from Z.base.rank (unit Z.width t) ≡ letter k = word_from-unit Z.base.rank Z.width t (omega arith) ∙ ap letter place in
+        let word : word_from Z.base.rank (unit Z.width t) ≡ letter k =
+        word_from-unit Z.base.rank Z.width t (omega arith) ∙ ap letter place in
         let long : length (unit Z.width t) ≡ Z.width = length-unit Z.width t in
         subst (λ (w : List ℤ). Joined (flat Z) (word_from Z.base.rank x ++ w) (w ++ word_from Z.base.rank x)) word
         (joined-trans (row_words-add Z is x (unit Z.width t) c long)

@@ -1,5 +1,6 @@
 -- Lists made place by place, and rows with a single entry: their sums, and a row as the sum of its entries.
-use Rattle.std.proofs.Common.{◌≡◌, ℕ, zero, suc, ◌+◌, ◌%◌, ◌<◌, List, ◌∷◌, ◌++◌, get_or, length, replicate, refl, ap, ◌∙◌, arith, mod-eq_of_lt}
+use Rattle.std.proofs.Common.{◌≡◌, ℕ, zero, suc, ◌+◌, ◌%◌, ◌<◌, List, ◌∷◌, ◌++◌, get_or, length, replicate, refl, ap, ◌∙◌, arith}
+use Rattle.std.proofs.Common.{mod-eq_of_lt}
 use Rattle.std.proofs.Math.Nat.{zero-mod, add-zero}
 use Rattle.std.proofs.lemmas.List.{length-replicate}
 use Rattle.pq_base.specs.Table.{AllBelow}
@@ -15,7 +16,8 @@ length-list_from f i (suc d) = ap suc (length-list_from f (suc i) d)
 pub get_or-list_from : {A : Type 0} (f : ℕ → A) (i d j : ℕ) (a : A) → j < d → get_or (list_from f i d) j a ≡ f (i + j)
 get_or-list_from f i zero j a l = absurd (omega arith)
 get_or-list_from f i (suc d) zero a l = ap f (let e : i ≡ i + 0 = omega arith in e)
-get_or-list_from f i (suc d) (suc j) a l = get_or-list_from f (suc i) d j a (omega arith) ∙ ap f (let e : suc i + j ≡ i + suc j = omega arith in e)
+get_or-list_from f i (suc d) (suc j) a l =
+    get_or-list_from f (suc i) d j a (omega arith) ∙ ap f (let e : suc i + j ≡ i + suc j = omega arith in e)
 
 -- a row with one entry
 pub single-zero : (q t : ℕ) → single q t 0 ≡ replicate q 0

@@ -1,5 +1,6 @@
 -- The rows over the tails that relations carry: one for each relation, each of residues and as wide as there are tails.
-use Rattle.std.proofs.Common.{◌≡◌, ℕ, zero, suc, ◌-◌, ◌<◌, ◌≤◌, Bool, true, false, cond, eqb, Option, None, Some, List, [], get_or, length, map, replicate, refl, ap, sym, ◌∙◌, subst, arith}
+use Rattle.std.proofs.Common.{◌≡◌, ℕ, zero, suc, ◌-◌, ◌<◌, ◌≤◌, Bool, true, false, cond, eqb, Option, None, Some, List, [], get_or, length}
+use Rattle.std.proofs.Common.{map, replicate, refl, ap, sym, ◌∙◌, subst, arith}
 use Rattle.std.proofs.lemmas.List.{length-map, length-replicate, get_or-map}
 use Rattle.pq_base.specs.Table.{AllBelow}
 use Rattle.pq_base.specs.Presentation.{IsNormal}
@@ -35,7 +36,8 @@ module _ (T : TailedPresentation) (is : IsTailedPresentation T) where
     row_count = length-map T.tail_table.commutators (λ (row : List (Option ℕ)). map (row_of T.tails) row) ∙ is.tail_shape.row_count;
     row_lengths = λ j h.
         let rows : length T.tail_table.commutators ≡ T.presentation.rank = is.tail_shape.row_count in
-        ap (length {A = List ℕ}) (get_or-map (λ (row : List (Option ℕ)). map (row_of T.tails) row) T.tail_table.commutators j [] [] (omega arith))
+        ap (length {A = List ℕ})
+        (get_or-map (λ (row : List (Option ℕ)). map (row_of T.tails) row) T.tail_table.commutators j [] [] (omega arith))
         ∙ length-map (get_or T.tail_table.commutators j []) (row_of T.tails) ∙ is.tail_shape.row_lengths j h;
   }
 

@@ -1,6 +1,7 @@
 -- Combinations of rows that are given for the sources on a list. Where a source stands on the list, the combination that the row of
 -- its place says is the row given for the source; and sources with coefficient 0 may be left out of the list.
-use Rattle.std.proofs.Common.{◌≡◌, ◌-◌, ◌+◌, ◌<◌, ◌≤◌, ℕ, suc, Bool, false, Option, None, Some, List, [], ◌∷◌, get_or, length, map, inl, inr, refl, ap, ap₂, sym, ◌∙◌, arith}
+use Rattle.std.proofs.Common.{◌≡◌, ◌-◌, ◌+◌, ◌<◌, ◌≤◌, ℕ, suc, Bool, false, Option, None, Some, List, [], ◌∷◌, get_or, length, map, inl}
+use Rattle.std.proofs.Common.{inr, refl, ap, ap₂, sym, ◌∙◌, arith}
 use Rattle.std.specs.Prelude.{filter}
 use Rattle.std.proofs.lemmas.Bool.{cases_Bool, cond-true, cond-false}
 use Rattle.std.proofs.lemmas.List.{length-map, get_or-map}

@@ -1,7 +1,8 @@
 -- Rows over the light tails of an answer and rows over all its tails. Leaving out the tails that are not light, and inserting 0 for
 -- them, are maps that are given by the row of each tail. They carry the rows of relations and images of the one cover to those of
 -- the other, but for the tails that were left out.
-use Rattle.std.proofs.Common.{◌≡◌, ◌-◌, ◌+◌, ◌<◌, ℕ, Option, None, Some, List, [], ◌∷◌, get_or, length, map, inl, inr, refl, ap, sym, ◌∙◌, arith}
+use Rattle.std.proofs.Common.{◌≡◌, ◌-◌, ◌+◌, ◌<◌, ℕ, Option, None, Some, List, [], ◌∷◌, get_or, length, map, inl, inr, refl, ap, sym, ◌∙◌}
+use Rattle.std.proofs.Common.{arith}
 use Rattle.std.proofs.lemmas.List.{length-map, get_or-map, ext_get_or}
 use Rattle.pq_base.specs.Table.{AllBelow}
 use Rattle.pq_base.specs.Elementary.{zeros}
@@ -22,7 +23,8 @@ use Rattle.cover_quotient.proofs.carried_rows.UnitRows.{unit_rows, combine-unit_
 use Rattle.tails_by_weight.specs.LightCovers.{is_light, light_sources}
 use Rattle.tails_by_weight.specs.WeightLaws.{entry_at, extended}
 use Rattle.tails_by_weight.proofs.LightSources.{light_sources_are_those_with_room}
-use Rattle.tails_by_weight.proofs.light.CombinedSources.{map-by_number, AreRows-given, combine-source_row, combine-no_source, combine-filtered}
+use Rattle.tails_by_weight.proofs.light.CombinedSources.{map-by_number, AreRows-given, combine-source_row, combine-no_source}
+use Rattle.tails_by_weight.proofs.light.CombinedSources.{combine-filtered}
 
 -- the row of a source over the light tails, and over all tails
 abbrev pub light_row : Answer → Source → List ℕ

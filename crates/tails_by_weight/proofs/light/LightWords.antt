@@ -1,6 +1,7 @@
 -- Over a canonical answer the word of a row over the light tails is trivial in the light cover exactly where that of the same row,
 -- with 0 for each tail that was left out, is trivial in the full cover. The answer need not be consistent.
-use Rattle.std.proofs.Common.{◌≡◌, ◌⊎◌, ◌+◌, ◌<◌, ℕ, suc, false, Option, None, Some, List, [], length, inl, inr, refl, ap, sym, ◌∙◌, subst, arith}
+use Rattle.std.proofs.Common.{◌≡◌, ◌⊎◌, ◌+◌, ◌<◌, ℕ, suc, false, Option, None, Some, List, [], length, inl, inr, refl, ap, sym, ◌∙◌, subst}
+use Rattle.std.proofs.Common.{arith}
 use Rattle.std.proofs.lemmas.Bool.{false≢true, leb-false}
 use Rattle.std.proofs.lemmas.List.{length-map}
 use Rattle.pq_base.specs.Presentation.{IsNormal, word_from}
@@ -26,7 +27,9 @@ use Rattle.tails_by_weight.specs.LightCovers.{is_light, light_sources, light_cov
 use Rattle.tails_by_weight.specs.WeightLaws.{extended}
 use Rattle.tails_by_weight.proofs.LightSources.{light_sources_are_those_with_room, light_covers_leave_out_heavy_tails}
 use Rattle.tails_by_weight.proofs.light.RowsOverOneBase.{trivial_row-carried}
-use Rattle.tails_by_weight.proofs.light.LightRows.{full_row, light_row, rows_to_light, rows_to_full, rows_to_light-rows, rows_to_full-rows, full_row-carried, light_row-carried, no_light_row-carried, extended-row, extended-carried, carried-extended}
+use Rattle.tails_by_weight.proofs.light.LightRows.{full_row, light_row, rows_to_light, rows_to_full, rows_to_light-rows, rows_to_full-rows}
+use Rattle.tails_by_weight.proofs.light.LightRows.{full_row-carried, light_row-carried, no_light_row-carried, extended-row}
+use Rattle.tails_by_weight.proofs.light.LightRows.{extended-carried, carried-extended}
 
 module _ (A : Answer) (is : IsAnswer A) (canonical : IsCanonical A) where
   abbrev L : RowedPresentation

@@ -8,10 +8,12 @@ use Rattle.pq_base.specs.Presentation.{IsRelatorOf, IsNormal, letter, word_from,
 use Rattle.pq_base.specs.Presentation.IsRelatorOf.{power_relator, commutator_relator}
 use Rattle.pq_base.specs.Joined.{Joined}
 use Rattle.pq_base.proofs.words.WordGroup.{joined-weaken}
-use Rattle.pq_base.proofs.words.JoinedLaws.{joined-from_equal, joined-sym, joined-trans, joined-append_left, joined-quotient, power-joined, commutator-joined}
+use Rattle.pq_base.proofs.words.JoinedLaws.{joined-from_equal, joined-sym, joined-trans, joined-append_left, joined-quotient, power-joined}
+use Rattle.pq_base.proofs.words.JoinedLaws.{commutator-joined}
 use Rattle.fp_echelon.specs.Span.{AreRows}
 use Rattle.pc_presentation.specs.Rowed.{RowedPresentation, IsRowed, power_row, commutator_row, flat}
-use Rattle.pc_presentation.proofs.rows.FlatWords.{power_word-flat, commutator_word-flat, power-with_row, commutator-with_row, power_word-tail, commutator_word-tail}
+use Rattle.pc_presentation.proofs.rows.FlatWords.{power_word-flat, commutator_word-flat, power-with_row, commutator-with_row}
+use Rattle.pc_presentation.proofs.rows.FlatWords.{power_word-tail, commutator_word-tail}
 use Rattle.cover_quotient.specs.Carried.{carried, carried_presentation}
 use Rattle.cover_quotient.proofs.carried_rows.CarriedPresentations.{carried-rowed, power_row-carried, commutator_row-carried}
 use Rattle.cover_quotient.proofs.carried_rows.CarriedWords.{words-mapped}

@@ -1,6 +1,7 @@
 -- Where the relations act on states, letters whose weights have a sum above the greatest are exchanged without a row, and words of
 -- letters of the greatest weight are added up as their exponents are, modulo the prime.
-use Rattle.std.proofs.Common.{◌≡◌, ℕ, suc, ◌+◌, ◌-◌, ◌%◌, ◌<◌, List, [], ◌∷◌, ◌++◌, length, get_or, replicate, refl, ap, sym, ◌∙◌, subst, arith, inl, inr, mod-eq_of_lt}
+use Rattle.std.proofs.Common.{◌≡◌, ℕ, suc, ◌+◌, ◌-◌, ◌%◌, ◌<◌, List, [], ◌∷◌, ◌++◌, length, get_or, replicate, refl, ap, sym, ◌∙◌, subst}
+use Rattle.std.proofs.Common.{arith, inl, inr, mod-eq_of_lt}
 use Rattle.std.proofs.lemmas.List.{replicate-append-replicate}
 use Rattle.std.proofs.lemmas.Bool.{cases_lt}
 use Rattle.std.proofs.Math.Nat.{add-mod_left}
@@ -18,7 +19,8 @@ use Rattle.pc_presentation.proofs.collecting.PlainRule.{plain, plain-rides, plai
 use Rattle.pc_presentation.proofs.collecting.RunLaws.ReplacementFrom.{swap_from, power_from}
 use Rattle.pc_presentation.proofs.collecting.StateProducts.{RelationsAct}
 use Rattle.tails_by_weight.specs.WeightedRows.{ObeysWeightsTo}
-use Rattle.tails_by_weight.proofs.weighted.HeavyWords.{IsHeavy, AreHeavy, heavy-front, heavy-rest, heavy-copy, heavy-multiple, heavy-one, bare_commutator, bare_power}
+use Rattle.tails_by_weight.proofs.weighted.HeavyWords.{IsHeavy, AreHeavy, heavy-front, heavy-rest, heavy-copy, heavy-multiple, heavy-one}
+use Rattle.tails_by_weight.proofs.weighted.HeavyWords.{bare_commutator, bare_power}
 
 -- exponents of the generators from place i on, and a row, both m times
 abbrev pub multiple : RowedPresentation → ℕ → ℕ → ℕ → ℕ → List ℕ → List ℕ → State → State

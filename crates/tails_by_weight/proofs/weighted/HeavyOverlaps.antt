@@ -12,8 +12,10 @@ use Rattle.pc_presentation.proofs.collecting.StateProducts.{RelationsAct}
 use Rattle.pc_presentation.proofs.collecting.PassedStates.{past, passed, past-rides, past-state, passed-add_row}
 use Rattle.pc_presentation.proofs.collecting.OverlapsAct.{spells_pair}
 use Rattle.tails_by_weight.specs.WeightedRows.{ObeysWeightsTo}
-use Rattle.tails_by_weight.proofs.weighted.HeavyWords.{IsHeavy, AreHeavy, heavy-replicate, heavy-lower, heavy-one, commutator-heavy, power-heavy}
-use Rattle.tails_by_weight.proofs.weighted.Exchange.{multiple, multiple-none, multiple-full, pushed-state, exchange_letter, exchange, multiple-once_more}
+use Rattle.tails_by_weight.proofs.weighted.HeavyWords.{IsHeavy, AreHeavy, heavy-replicate, heavy-lower, heavy-one, commutator-heavy}
+use Rattle.tails_by_weight.proofs.weighted.HeavyWords.{power-heavy}
+use Rattle.tails_by_weight.proofs.weighted.Exchange.{multiple, multiple-none, multiple-full, pushed-state, exchange_letter, exchange}
+use Rattle.tails_by_weight.proofs.weighted.Exchange.{multiple-once_more}
 use Rattle.tails_by_weight.proofs.weighted.PassedWords.{spells_later, passed-word, past-heavy}
 
 module _ (Y : RowedPresentation) (rowed : IsRowed Y) (big : 1 < Y.base.prime) (weights : List ℕ) (e : ℕ)

@@ -1,6 +1,7 @@
 -- Overlaps of the p-th power of the generator at place k with a later generator or with itself agree by their weights alone, where these
 -- have a sum of at least the greatest and the relations of the later generators act.
-use Rattle.std.proofs.Common.{◌≡◌, ℕ, zero, suc, pred, ◌+◌, ◌<◌, ◌≤◌, List, [], ◌∷◌, ◌++◌, length, get_or, replicate, refl, ap, sym, ◌∙◌, arith}
+use Rattle.std.proofs.Common.{◌≡◌, ℕ, zero, suc, pred, ◌+◌, ◌<◌, ◌≤◌, List, [], ◌∷◌, ◌++◌, length, get_or, replicate, refl, ap, sym, ◌∙◌}
+use Rattle.std.proofs.Common.{arith}
 use Rattle.std.proofs.lemmas.List.{replicate-append-replicate}
 use Rattle.fp_rows.specs.Rows.{scale_row}
 use Rattle.fp_rows.proofs.RowLaws.{length-scale_row}
@@ -12,7 +13,9 @@ use Rattle.pc_presentation.proofs.rows.RowsCentral.{scale_row-normal}
 use Rattle.pc_presentation.proofs.collecting.PushLaws.{push_word-append}
 use Rattle.pc_presentation.proofs.collecting.PlainRule.{plain, plain-later, plain-later_word, plain-rides, plain-state, spelled-suc}
 use Rattle.pc_presentation.proofs.collecting.StateProducts.{star, RelationsAct, star-identity_right, star-push}
-use Rattle.pc_presentation.proofs.collecting.PassedStates.{past, passed, passed_times, full_power, past-state, passed-identity, passed-add_row, passed_times-identity, passed_times-add, passed_times-state, full_power-state, first-raise, first-times, first-carry}
+use Rattle.pc_presentation.proofs.collecting.PassedStates.{past, passed, passed_times, full_power, past-state, passed-identity}
+use Rattle.pc_presentation.proofs.collecting.PassedStates.{passed-add_row, passed_times-identity, passed_times-add, passed_times-state}
+use Rattle.pc_presentation.proofs.collecting.PassedStates.{full_power-state, first-raise, first-times, first-carry}
 use Rattle.tails_by_weight.specs.WeightedRows.{ObeysWeightsTo}
 use Rattle.tails_by_weight.proofs.weighted.HeavyWords.{IsHeavy, AreHeavy, heavy-lower, heavy-multiple, power-heavy}
 use Rattle.tails_by_weight.proofs.weighted.Exchange.{multiple, multiple-none, multiple-full, exchange_letter, multiple-once_more}

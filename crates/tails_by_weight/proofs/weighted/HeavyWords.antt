@@ -1,6 +1,7 @@
 -- Words of generators whose weights have a lower bound. Where a presentation obeys weights, the right sides of its relations are
 -- such words, and those whose bound is above the greatest weight are empty.
-use Rattle.std.proofs.Common.{◌≡◌, ◌≢◌, ℕ, zero, suc, ◌+◌, ◌*◌, ◌%◌, ◌<◌, ◌≤◌, List, [], ◌∷◌, ◌++◌, length, get_or, replicate, refl, subst, arith}
+use Rattle.std.proofs.Common.{◌≡◌, ◌≢◌, ℕ, zero, suc, ◌+◌, ◌*◌, ◌%◌, ◌<◌, ◌≤◌, List, [], ◌∷◌, ◌++◌, length, get_or, replicate, refl, subst}
+use Rattle.std.proofs.Common.{arith}
 use Rattle.fp_rows.specs.Rows.{scale_row}
 use Rattle.pq_base.specs.Presentation.{power_side, commutator_side}
 use Rattle.pc_presentation.specs.Rowed.{RowedPresentation, IsRowed}

@@ -14,7 +14,8 @@ use Rattle.p_cover.proofs.SourceNumbers.{source-by_place}
 use Rattle.pc_presentation.proofs.cuts.CutSides.{cut-presentation}
 use Rattle.cover_quotient.proofs.canonical_answers.ClassesByWeight.{rank-within}
 use Rattle.cover_quotient.proofs.canonical_answers.EarlierTurns.{wanted-sources}
-use Rattle.unique_answers.proofs.unique.CutParts.{letter-cut, cut-weight_count, cut-definition_count, cut-image_count, cut-weight, cut-definition, cut-image, cut-power_side, cut-commutator_side}
+use Rattle.unique_answers.proofs.unique.CutParts.{letter-cut, cut-weight_count, cut-definition_count, cut-image_count, cut-weight}
+use Rattle.unique_answers.proofs.unique.CutParts.{cut-definition, cut-image, cut-power_side, cut-commutator_side}
 
 AreWeights-take : (least n : ℕ) (ws : List ℕ) → AreWeights least ws → AreWeights least (take n ws)
 AreWeights-take least zero ws h = tt

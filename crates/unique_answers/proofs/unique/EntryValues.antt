@@ -9,8 +9,10 @@ use Rattle.pq_base.specs.Answer.Definition.{image, commutator, power}
 use Rattle.pq_base.specs.Canonical.{rank_up_to, new_part, up_to_class}
 use Rattle.pq_base.specs.EntryWords.{IsSourceOf, spelling_words, entry_word}
 use Rattle.pq_base.proofs.words.WordLaws.{sub-append, sub-inv, sub-letter}
-use Rattle.pq_base.proofs.words.LetterLaws.{HasLetters-letter, HasLetters-copies, HasLetters-comm, HasLetters-word_from, HasLetters-append, HasLetters-inv}
-use Rattle.pq_base.proofs.words.JoinedLaws.{joined-from_equal, joined-sym, joined-trans, joined-append, joined-inv, inv-append-append-joined, power-joined, commutator-joined}
+use Rattle.pq_base.proofs.words.LetterLaws.{HasLetters-letter, HasLetters-copies, HasLetters-comm, HasLetters-word_from, HasLetters-append}
+use Rattle.pq_base.proofs.words.LetterLaws.{HasLetters-inv}
+use Rattle.pq_base.proofs.words.JoinedLaws.{joined-from_equal, joined-sym, joined-trans, joined-append, joined-inv}
+use Rattle.pq_base.proofs.words.JoinedLaws.{inv-append-append-joined, power-joined, commutator-joined}
 use Rattle.pq_base.proofs.words.SpelledWords.{IsDefinedBy, definitions-spelled}
 use Rattle.pq_base.proofs.words.SpelledBack.{spelled_words-back}
 use Rattle.pq_base.proofs.words.SpelledLists.{side_word}
@@ -107,7 +109,8 @@ module _ (A : Answer) (is : IsAnswer A) (k : ℕ) where
           let same : definition_at N i ≡ definition_at D i =
           cut-definition A is (suc k) i (omega arith) ∙ sym (cut-definition A is k i (omega arith)) in
           defined-by N i (definition_at D i) (omega arith)
-          (subst (λ (d : Definition). HasDefinition (up_to_class A (suc k)) i d) same ((cut-answer A is (suc k)).definitions i (omega arith)))
+          (subst (λ (d : Definition). HasDefinition (up_to_class A (suc k)) i d) same
+          ((cut-answer A is (suc k)).definitions i (omega arith)))
 
   back : (w : List ℤ) → HasLetters m w → Joined Q (sub (sub w S) f) w
   back w h = spelled_words-back Q m S f spelled-next w h

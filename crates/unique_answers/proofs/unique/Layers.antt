@@ -1,7 +1,8 @@
 -- Two answers that are one answer D where they are cut to class k, and in which the same words die where they are cut to class k + 1.
 -- Where an entry has none but the first so many new generators in its new part in the one, it has the same new part in the other: a product
 -- of powers of the words of the entries that define these generators has the value of the word of the entry.
-use Rattle.std.proofs.Common.{◌≡◌, ℕ, suc, ◌+◌, ◌-◌, ◌<◌, ◌≤◌, ℤ, List, [], ◌∷◌, ◌++◌, get_or, length, take, drop, replicate, ap, sym, ◌∙◌, subst, arith, length-append}
+use Rattle.std.proofs.Common.{◌≡◌, ℕ, suc, ◌+◌, ◌-◌, ◌<◌, ◌≤◌, ℤ, List, [], ◌∷◌, ◌++◌, get_or, length, take, drop, replicate, ap, sym, ◌∙◌}
+use Rattle.std.proofs.Common.{subst, arith, length-append}
 use Rattle.std.proofs.lemmas.List.{length-take-le, length-replicate, drop_at}
 use Rattle.pq_base.specs.SignedWord.{copies, sub, HasLetters}
 use Rattle.pq_base.specs.LPresentation.{AreWords}

@@ -1,6 +1,7 @@
 -- An answer cut to class k, and the same answer cut to class k + 1: right sides and images of the first, each followed by its new part,
 -- are those of the second.
-use Rattle.std.proofs.Common.{◌≡◌, ℕ, zero, suc, ◌+◌, ◌-◌, ◌<◌, ◌≤◌, ℤ, List, [], ◌++◌, get_or, length, take, drop, refl, ap, ap₂, sym, ◌∙◌, subst, arith}
+use Rattle.std.proofs.Common.{◌≡◌, ℕ, zero, suc, ◌+◌, ◌-◌, ◌<◌, ◌≤◌, ℤ, List, [], ◌++◌, get_or, length, take, drop, refl, ap, ap₂, sym, ◌∙◌}
+use Rattle.std.proofs.Common.{subst, arith}
 use Rattle.std.proofs.lemmas.List.{get_or-map, length-drop, length-take-le}
 use Rattle.pq_base.specs.Presentation.{IsNormal, word_from, normal_word, power_side, commutator_side}
 use Rattle.pq_base.specs.Table.{AllBelow}

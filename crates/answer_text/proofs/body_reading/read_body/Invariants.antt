@@ -9,7 +9,8 @@ use Rattle.answer_text.proofs.body_reading.read_body.Given as goal
 abbrev pub invariant-loop-line : goal.invariant-loop-line
 invariant-loop-line l = record {
   bytes : l.number + length l.rest ≤ l.head.rank + 5 + length l.fn.text;
-  read : IsBodyRead (prime_value l.head.prime) l.head.rank l.initial.body.builder.built.weights l.fn.text l.rest l.number (so_far l.body.builder l.body.last l.body.names.items (words_of l.body.images.items));
+  read : IsBodyRead (prime_value l.head.prime) l.head.rank l.initial.body.builder.built.weights l.fn.text l.rest l.number
+      (so_far l.body.builder l.body.last l.body.names.items (words_of l.body.images.items));
 }
 
 abbrev pub decreases-loop-line : goal.decreases-loop-line

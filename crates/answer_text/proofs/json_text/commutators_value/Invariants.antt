@@ -5,4 +5,6 @@ use Rattle.answer_text.proofs.json_text.commutators_value.Given as goal
 
 -- what is listed, and what is left, are all
 abbrev pub invariant-loop-k : goal.invariant-loop-k
-invariant-loop-k l = map view l.list.items ++ commutators_data l.k (drop l.k l.answer.presentation.commutators) ≡ commutators_data 0 l.answer.presentation.commutators
+invariant-loop-k l =
+    map view l.list.items ++ commutators_data l.k (drop l.k l.answer.presentation.commutators)
+    ≡ commutators_data 0 l.answer.presentation.commutators

@@ -12,4 +12,6 @@ returns c =
     let is : view c.in_ok-answer_value.field-0 ≡ answer_data c.args.answer.now = c.in_ok-answer_value.ensures in
     let none : has_float (view c.in_ok-answer_value.field-0) ≡ false = ap has_float is ∙ has_float-answer c.args.answer.now in
     c.in_ok-push.ensures.items
-    ∙ ap (λ (bs : List ℕ). bs ++ 10 ∷ []) (ap (λ (v : Vec ℕ Global). v.items) c.into_bytes-out.ensures.value ∙ c.in_ok-to_string.ensures.text none ∙ ap (λ (d : Data). compact_text d) is)
+    ∙ ap (λ (bs : List ℕ). bs ++ 10 ∷ [])
+    (ap (λ (v : Vec ℕ Global). v.items) c.into_bytes-out.ensures.value
+    ∙ c.in_ok-to_string.ensures.text none ∙ ap (λ (d : Data). compact_text d) is)

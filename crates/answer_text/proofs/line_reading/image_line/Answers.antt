@@ -8,5 +8,8 @@ use Rattle.answer_text.proofs.line_reading.image_line.Goals as goal
 
 pub returns-in_default-2-clause-none : goal.returns-in_default-2-clause-none
 returns-in_default-2-clause-none c =
-    no-image-word c.args.prime c.args.rank c.args.line.now c.in-Some.right.now c.in-Some.name c.in-Some.ensures.some.0 c.in-Some.ensures.some.1
-    (IfNone-at c.in_ok-word.field-0 ((w : List Syllable) → AreSyllables c.args.prime c.args.rank 0 w → ¬ (c.in-Some.right.now ≡ word_text w)) c.in_default-2.is c.in_ok-word.ensures.none)
+    no-image-word c.args.prime c.args.rank c.args.line.now c.in-Some.right.now c.in-Some.name c.in-Some.ensures.some.0
+    c.in-Some.ensures.some.1
+    (IfNone-at c.in_ok-word.field-0
+    ((w : List Syllable) → AreSyllables c.args.prime c.args.rank 0 w → ¬ (c.in-Some.right.now ≡ word_text w)) c.in_default-2.is
+    c.in_ok-word.ensures.none)

@@ -11,7 +11,8 @@ returns-then-p-from c =
     let low : c.args.rank < 1000 = c.requires in (
       λ t. c.in-Some.ensures.some.2 ∙ ap₂ (λ (p n : ℕ). order_line p n) prime (eqb-true c.in-Some.n c.args.rank t),
       λ e. eq-eqb c.in-Some.n c.args.rank
-          (order_line-same c.in-Some.p c.in-Some.n c.args.prime c.args.rank c.in-Some.ensures.some.0 c.in-Some.ensures.some.1 small low (sym c.in-Some.ensures.some.2 ∙ e)).1,
+          (order_line-same c.in-Some.p c.in-Some.n c.args.prime c.args.rank c.in-Some.ensures.some.0 c.in-Some.ensures.some.1 small low
+          (sym c.in-Some.ensures.some.2 ∙ e)).1,
     )
 
 pub returns-else-p-from : goal.returns-else-p-from
@@ -20,5 +21,6 @@ returns-else-p-from c =
     let low : c.args.rank < 1000 = c.requires in (
       λ t. absurd (c.if-p-from.false (eqb-true c.in-Some.p c.from.result t)),
       λ e. absurd (c.if-p-from.false
-          ((order_line-same c.in-Some.p c.in-Some.n c.args.prime c.args.rank c.in-Some.ensures.some.0 c.in-Some.ensures.some.1 small low (sym c.in-Some.ensures.some.2 ∙ e)).0 ∙ sym c.from.ensures)),
+          ((order_line-same c.in-Some.p c.in-Some.n c.args.prime c.args.rank c.in-Some.ensures.some.0 c.in-Some.ensures.some.1 small low
+          (sym c.in-Some.ensures.some.2 ∙ e)).0 ∙ sym c.from.ensures)),
     )

@@ -13,5 +13,7 @@ returns-in_err-left-clause-none c =
 pub returns-in_err-behind-clause-none : goal.returns-in_err-behind-clause-none
 returns-in_err-behind-clause-none c =
     IfNone-of _ ((l r : List ℕ) → avoids 32 l ≡ true → ¬ (c.args.text.now ≡ l ++ (codes " = " ++ r))) (λ l r a e.
-    let parts = split-same 32 c.in_ok-left.left.now l c.in_ok-left.right.now (61 ∷ 32 ∷ r) c.in_ok-left.ensures.first a (sym c.in_ok-left.ensures.some ∙ e) in
+    let parts =
+    split-same 32 c.in_ok-left.left.now l c.in_ok-left.right.now (61 ∷ 32 ∷ r) c.in_ok-left.ensures.first a
+    (sym c.in_ok-left.ensures.some ∙ e) in
     c.in_err-behind.ensures.none r parts.1)

@@ -13,9 +13,12 @@ returns-clause-fault c =
     let bytes : List ℕ = c.args.bytes.now in
     let end : ℕ = c.in_ok-sources.field-0.end in
     let ss : List Source = c.in_ok-sources.field-0.sources.items in
-    let S : SoFar = so_far c.in_ok-sources.field-0.body.builder c.in_ok-sources.field-0.body.last c.in_ok-sources.field-0.body.names.items (words_of c.in_ok-sources.field-0.body.images.items) in
+    let S : SoFar =
+    so_far c.in_ok-sources.field-0.body.builder c.in_ok-sources.field-0.body.last c.in_ok-sources.field-0.body.names.items
+    (words_of c.in_ok-sources.field-0.body.images.items) in
     let read : IsRead bytes end ss S = c.in_ok-sources.ensures.ok in
     let sources : c.deref.result.now ≡ ss = c.deref.ensures.value in
     let none : (m : ℕ) → IsRead bytes m c.deref.result.now S → ¬ IsAnswerText bytes =
-    IfNone-at c.in_ok-answer.field-0 ((m : ℕ) → IsRead bytes m c.deref.result.now S → ¬ IsAnswerText bytes) c.in-None.is c.in_ok-answer.ensures.none in
+    IfNone-at c.in_ok-answer.field-0 ((m : ℕ) → IsRead bytes m c.deref.result.now S → ¬ IsAnswerText bytes) c.in-None.is
+    c.in_ok-answer.ensures.none in
     IsFaultLine-read bytes end ss S read (none end (subst (λ (x : List Source). IsRead bytes end x S) (sym sources) read))

@@ -11,7 +11,9 @@ loop-k-preserved c =
     let k : ℕ = c.loop-k.k in
     let A : Answer = c.args.answer.now in
     let rows : List (List (List ℕ)) = A.presentation.commutators in
-    let rank : c.rank-rank.result ≡ A.presentation.rank = c.rank-rank.ensures.rank ∙ ap (λ (P : Presentation). P.rank) c.pcp.ensures.presentation in
+    let rank : c.rank-rank.result ≡ A.presentation.rank =
+    c.rank-rank.ensures.rank ∙ ap (λ (P : Presentation). P.rank) c.pcp.ensures.presentation in
     let long : length rows ≡ A.presentation.rank = c.pcp.ensures.answer.presentation.commutator_count in
     let next = commutator_lines-next k (k + 1) (k + 1 - 1) rows (omega arith) (omega arith) (omega (arith, c.loop-k-test.true)) in
-    text_of_lines-part c.loop-k.out.items c.push_commutator_row.new.out.items _ (commutator_row_lines (k + 1) 0 (get_or rows (k + 1 - 1) [])) _ _ c.in_ok-push_commutator_row.ensures next c.loop-k.invariant
+    text_of_lines-part c.loop-k.out.items c.push_commutator_row.new.out.items _
+    (commutator_row_lines (k + 1) 0 (get_or rows (k + 1 - 1) [])) _ _ c.in_ok-push_commutator_row.ensures next c.loop-k.invariant

@@ -11,7 +11,8 @@ use Rattle.answer_text.proofs.writing.push_images.Goals as goal
 pub overflow_add-i : goal.overflow_add-i
 overflow_add-i c =
     let limit : length c.args.answer.now.names ≤ max_names = c.pcp-pcp.ensures.answer.name_limit in
-    let names : length c.names-name-items.result.now ≡ length c.args.answer.now.names = ap (λ (ns : List (List ℕ)). length ns) c.names-name-items.ensures in
+    let names : length c.names-name-items.result.now ≡ length c.args.answer.now.names =
+    ap (λ (ns : List (List ℕ)). length ns) c.names-name-items.ensures in
     omega (arith, c.loop-name-test.true, c.loop-name.invariant.1)
 
 pub push_image-requires : goal.push_image-requires
@@ -29,6 +30,11 @@ loop-name-preserved c =
     let long : length names ≡ length A.names = ap (λ (ns : List (List ℕ)). length ns) c.names-name-items.ensures in
     let images : length A.images ≡ length A.names = c.pcp-pcp.ensures.answer.image_count in
     let name = get_or_read names k c.name-item.result inside c.name-item.is [] in
-    let written = image_line-written c.loop-name.out.items c.push_image.new.out.items _ (get_or names k []) c.image.result.now (get_or A.images (i + 1 - 1) []) c.in_ok-push_image.ensures name c.image.ensures in
-    let next = image_lines-next k (k + 1) (i + 1 - 1) names A.images (omega arith) (omega arith) inside (omega arith) in
-    (text_of_lines-next c.loop-name.out.items c.push_image.new.out.items _ (image_line (get_or names k []) (get_or A.images (i + 1 - 1) [])) _ _ written next c.loop-name.invariant.0, omega arith)
+    let written =
+    image_line-written c.loop-name.out.items c.push_image.new.out.items _ (get_or names k []) c.image.result.now
+    (get_or A.images (i + 1 - 1) []) c.in_ok-push_image.ensures name c.image.ensures in
+    let next = image_lines-next k (k + 1) (i + 1 - 1) names A.images (omega arith) (omega arith) inside (omega arith) in (
+      text_of_lines-next c.loop-name.out.items c.push_image.new.out.items _
+          (image_line (get_or names k []) (get_or A.images (i + 1 - 1) [])) _ _ written next c.loop-name.invariant.0,
+      omega arith,
+    )

@@ -10,4 +10,5 @@ loop-k-preserved c =
     let f : FitsSigned w32 (get_or letters c.loop-k.k-index (pos 0)) = search rules in
     let letter = rw (to_z-of_z w32 (get_or letters c.loop-k.k-index (pos 0)) f) at c.if-not-is_letter_of.ensures in
     rw (take_more letters c.loop-k.k-index (pos 0) c.loop-k-test.true)
-    (HasLetters-append c.args.generators (take c.loop-k.k-index letters) (get_or letters c.loop-k.k-index (pos 0) ∷ []) c.loop-k.invariant (letter refl, tt))
+    (HasLetters-append c.args.generators (take c.loop-k.k-index letters) (get_or letters c.loop-k.k-index (pos 0) ∷ []) c.loop-k.invariant
+    (letter refl, tt))

@@ -30,7 +30,8 @@ returns-then-not-may_be_kept c = (
 pub loop-tail-preserved : goal.loop-tail-preserved
 loop-tail-preserved c =
     let C = c.args.cover.now in
-    sources-more (MayBeKept C.answer (class_of C.answer)) C.sources c.args.kept.now c.loop-tail.tail-index (definition_of c.source_of.result)
+    sources-more (MayBeKept C.answer (class_of C.answer)) C.sources c.args.kept.now c.loop-tail.tail-index
+    (definition_of c.source_of.result)
     c.loop-tail-test.true c.source_of.ensures c.loop-tail.invariant
     (subst (λ (A : Answer). MayBeKept A (class_of A) (definition_of c.source_of.result)) c.answer.ensures
     (c.may_be_kept.ensures.0 c.if-not-may_be_kept.false))

@@ -46,7 +46,8 @@ next_answer-requires-clause-kept c =
     let B = c.args.basis.now in
     let big = c.width-width.ensures.basis.prime in
     let two : 1 < B.prime = omega arith in
-    subst AreKept (sym c.in_ok-combinations.ensures) (AreKept-kept_combinations B.prime B.width two B.rows c.width-width.ensures.basis.reduced)
+    subst AreKept (sym c.in_ok-combinations.ensures)
+    (AreKept-kept_combinations B.prime B.width two B.rows c.width-width.ensures.basis.reduced)
 
 pub returns : goal.returns
 returns c =
@@ -57,6 +58,7 @@ returns c =
     let some = eqb-false (vec_len c.in_ok-kept.kept) 0 (sym c.is_empty.ensures ∙ c.if-is_empty.false) in
     let all : vec_len c.in_ok-kept.kept ≡ length c.in_ok-kept.kept.items = omega arith in (
       c.in_ok-next_answer.ensures
-          ∙ ap (combined_answer C) (c.in_ok-combinations.ensures ∙ kept_combinations-same B c.width-width.ensures.basis C c.requires.prime c.requires.width),
+          ∙ ap (combined_answer C)
+          (c.in_ok-combinations.ensures ∙ kept_combinations-same B c.width-width.ensures.basis C c.requires.prime c.requires.width),
       omega arith,
     )

@@ -13,7 +13,8 @@ push-requires c =
     let width = c.width-t-end.ensures.width in
     let last : t + 1 ≤ B.width = omega (arith, c.loop-t-test.true) in
     subst (λ (K : TailCombinations). AreSyllables K.prime (length K.kept) 0 c.in_ok-word.word.items) (sym c.loop-t.invariant)
-    (subst (AreSyllables B.prime (length (kept_columns B.width B.rows)) 0) (sym c.in_ok-word.ensures) (kept_row-word B c.prime.ensures.basis (t + 1) (omega arith) last))
+    (subst (AreSyllables B.prime (length (kept_columns B.width B.rows)) 0) (sym c.in_ok-word.ensures)
+    (kept_row-word B c.prime.ensures.basis (t + 1) (omega arith) last))
 
 pub loop-t-preserved : goal.loop-t-preserved
 loop-t-preserved c =
@@ -27,9 +28,12 @@ loop-t-preserved c =
       kept = K.kept;
       rows = K.rows ++ spread (length K.kept) 0 c.in_ok-word.word.items ∷ [];
     } in more) c.loop-t.invariant
-    ∙ ap (λ (rows : List (List ℕ)). let K : TailCombinations = record { prime = B.prime; kept = kept_columns B.width B.rows; rows = rows } in K)
-    (ap (λ (w : List Syllable). take t (kept_rows B.prime B.width B.rows) ++ spread (length (kept_columns B.width B.rows)) 0 w ∷ []) c.in_ok-word.ensures
-    ∙ ap (λ (x : List ℕ). take t (kept_rows B.prime B.width B.rows) ++ x ∷ []) (kept_row-spread B c.prime.ensures.basis (t + 1) (omega arith) last)
+    ∙ ap (λ (rows : List (List ℕ)). let K : TailCombinations =
+    record { prime = B.prime; kept = kept_columns B.width B.rows; rows = rows } in K)
+    (ap (λ (w : List Syllable). take t (kept_rows B.prime B.width B.rows) ++ spread (length (kept_columns B.width B.rows)) 0 w ∷ [])
+    c.in_ok-word.ensures
+    ∙ ap (λ (x : List ℕ). take t (kept_rows B.prime B.width B.rows) ++ x ∷ [])
+    (kept_row-spread B c.prime.ensures.basis (t + 1) (omega arith) last)
     ∙ kept_rows-more B c.prime.ensures.basis t last)
 
 pub returns : goal.returns
@@ -37,5 +41,6 @@ returns c =
     let B = c.args.basis.now in
     let width = c.width-t-end.ensures.width in
     c.loop-t.invariant
-    ∙ ap (λ (rows : List (List ℕ)). let K : TailCombinations = record { prime = B.prime; kept = kept_columns B.width B.rows; rows = rows } in K)
+    ∙ ap (λ (rows : List (List ℕ)). let K : TailCombinations =
+    record { prime = B.prime; kept = kept_columns B.width B.rows; rows = rows } in K)
     (kept_rows-all B c.prime.ensures.basis c.loop-t.t (omega (arith, c.loop-t-test.false)))

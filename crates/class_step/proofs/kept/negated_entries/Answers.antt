@@ -12,6 +12,7 @@ loop-k-preserved c =
     written-more (λ d. negative c.args.row.now.prime (at_column c.args.row.now.entries d)) 0 c.args.kept.now []
     c.loop-k.k c.negated.result c.loop-k.word.items c.push_power.new.word.items c.loop-k-test.true c.loop-k.invariant
     (c.negated.ensures
-    ∙ ap (λ d. negative c.args.row.now.prime (at_column c.args.row.now.entries d)) (get_or_default c.args.kept.now c.loop-k.k _ 0 c.loop-k-test.true))
+    ∙ ap (λ d. negative c.args.row.now.prime (at_column c.args.row.now.entries d))
+    (get_or_default c.args.kept.now c.loop-k.k _ 0 c.loop-k-test.true))
     (c.in_ok-push_power.ensures
     ∙ ap (λ (m : ℕ). c.loop-k.word.items ++ syllables_of m (c.negated.result ∷ [])) same)

@@ -53,5 +53,6 @@ returns c =
     let definitions : map definition_of c.in_ok-definitions.definitions.items ≡ A.definitions =
     c.in_ok-definitions.ensures ∙ ap (λ ks. C.answer.definitions ++ sources_at ks C.sources) c.kept.ensures.kept in
     c.in-Some.ensures.some
-    ∙ parts-answer A is c.in_ok-pcp.pcp c.in_ok-names.names.items c.in_ok-definitions.definitions.items (words_of c.in_ok-images.images.items)
+    ∙ parts-answer A is c.in_ok-pcp.pcp c.in_ok-names.names.items c.in_ok-definitions.definitions.items
+    (words_of c.in_ok-images.images.items)
     c.in_ok-pcp.ensures names definitions c.in_ok-images.ensures

@@ -25,7 +25,8 @@ returns c =
     let start : c.image.result.now ≡ syllables_of 0 (get_or C.answer.images (i - 1) []) =
     c.image.ensures ∙ ap (λ (a : Answer). syllables_of 0 (get_or a.images (i - 1) [])) c.answer-answer.ensures in
     let rank : c.rank.result ≡ C.answer.presentation.rank =
-    c.rank.ensures.rank ∙ ap (λ (P : Presentation). P.rank) c.pcp.ensures.presentation ∙ ap (λ (a : Answer). a.presentation.rank) c.answer-answer.ensures in
+    c.rank.ensures.rank ∙ ap (λ (P : Presentation). P.rank) c.pcp.ensures.presentation
+    ∙ ap (λ (a : Answer). a.presentation.rank) c.answer-answer.ensures in
     subst (λ (w : List Syllable). IfOk c.with_tail.result (λ v. v.items ≡ w))
     (ap₂ (λ (w : List Syllable) (v : List Syllable). w ++ v) start
     (ap₂ (λ (n : ℕ) (t : Option ℕ). tail_part K n t) rank c.tail_of-tail.ensures

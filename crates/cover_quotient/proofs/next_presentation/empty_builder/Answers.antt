@@ -26,9 +26,11 @@ returns c =
     let rows = cover_rows C K c.requires.combinations c.kept.ensures.combinations in
     let weights : c.deref.result.now ≡ A.weights =
     c.deref.ensures.value ∙ c.in_ok-weights.ensures
-    ∙ ap₂ (λ (a : Answer) (k : ℕ). a.weights ++ replicate k (suc (class_of a))) c.answer-answer.ensures (ap (length {A = ℕ}) c.kept.ensures.kept) in
+    ∙ ap₂ (λ (a : Answer) (k : ℕ). a.weights ++ replicate k (suc (class_of a))) c.answer-answer.ensures
+    (ap (length {A = ℕ}) c.kept.ensures.kept) in
     let prime : p ≡ C.answer.presentation.prime =
-    c.prime.ensures ∙ ap (λ (P : Presentation). P.prime) c.pcp-2.ensures.presentation ∙ ap (λ (a : Answer). a.presentation.prime) c.answer-answer.ensures in
+    c.prime.ensures ∙ ap (λ (P : Presentation). P.prime) c.pcp-2.ensures.presentation
+    ∙ ap (λ (a : Answer). a.presentation.prime) c.answer-answer.ensures in
     let old : length C.answer.weights ≡ n = c.pcp.ensures.cover.answer.weight_count in
     let all : length (C.answer.weights ++ replicate q class) ≡ length C.answer.weights + length (replicate q class) =
     length-append C.answer.weights (replicate q class) in

@@ -20,4 +20,5 @@ loop-k-preserved c =
     let rank : c.rank-k-end.result ≡ C.answer.presentation.rank =
     c.rank-k-end.ensures.rank ∙ ap (λ (T : TailedPresentation). T.presentation.rank) c.pcp.ensures.presentation in
     let inside : c.loop-k.k < A.presentation.rank = omega (arith, c.loop-k-test.true) in
-    power-more A c.loop-k.invariant.of C.answer.presentation.rank c.loop-k.k c.loop-k.builder c.give.new.builder inside c.loop-k.invariant c.in_ok-give.ensures
+    power-more A c.loop-k.invariant.of C.answer.presentation.rank c.loop-k.k c.loop-k.builder c.give.new.builder inside c.loop-k.invariant
+    c.in_ok-give.ensures

@@ -13,7 +13,8 @@ returns c =
     let pcp = c.pcp-pcp.ensures.presentation in
     let start : c.word.result.now ≡ side_word C.answer.presentation r =
     c.word.ensures ∙ ap (λ (T : TailedPresentation). side_word T.presentation r) pcp in
-    let rank : c.rank.result ≡ C.answer.presentation.rank = c.rank.ensures.rank ∙ ap (λ (T : TailedPresentation). T.presentation.rank) pcp in
+    let rank : c.rank.result ≡ C.answer.presentation.rank =
+    c.rank.ensures.rank ∙ ap (λ (T : TailedPresentation). T.presentation.rank) pcp in
     let is = subst IsTailedPresentation pcp c.rank.ensures.presentation in
     let rows = cover_rows C K c.requires.combinations c.kept-combinations.ensures.combinations in
     subst (λ (w : List Syllable). IfOk c.with_tail.result (λ v. v.items ≡ w))

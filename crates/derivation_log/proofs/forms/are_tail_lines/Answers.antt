@@ -12,4 +12,5 @@ returns-then-not-is_next_tail_line c =
     let inside : k < length ls = omega (arith, c.loop-place-test.true) in
     let line = get_or_read ls k c.index-lines-place.result inside c.index-lines-place.is no_line in
     sym (not-front c.args.p c.args.n (k + 1) ls
-    (ap (λ (xs : List TailLine). are_tail_lines c.args.p c.args.n xs 1 xs) (sym (take-next ls k c.index-lines-place.result inside line)) ∙ sym c.if-not-is_next_tail_line.ensures))
+    (ap (λ (xs : List TailLine). are_tail_lines c.args.p c.args.n xs 1 xs) (sym (take-next ls k c.index-lines-place.result inside line))
+    ∙ sym c.if-not-is_next_tail_line.ensures))

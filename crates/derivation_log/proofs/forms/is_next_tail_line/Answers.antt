@@ -10,12 +10,16 @@ is_tail_line-requires c = AreRising-tail_lines c.args.p c.args.n 1 c.args.lines.
 pub returns-then-least_behind-from : goal.returns-then-least_behind-from
 returns-then-least_behind-from c =
     let small : c.args.line.now.tail ≤ max_number = omega (arith, c.tail.ensures, c.from.ensures) in
-    next-test c.args.p c.args.n c.args.lines.now c.args.line.now c.least_behind.result true c.is_tail_line.result small c.requires c.least_behind.ensures
-    (sym (le-leb c.least_behind.result c.from.result c.if-least_behind-from.true) ∙ ap (λ (t : ℕ). leb c.least_behind.result t) (c.from.ensures ∙ c.tail.ensures)) c.is_tail_line.ensures
+    next-test c.args.p c.args.n c.args.lines.now c.args.line.now c.least_behind.result true c.is_tail_line.result small c.requires
+    c.least_behind.ensures
+    (sym (le-leb c.least_behind.result c.from.result c.if-least_behind-from.true)
+    ∙ ap (λ (t : ℕ). leb c.least_behind.result t) (c.from.ensures ∙ c.tail.ensures)) c.is_tail_line.ensures
 
 pub returns-else-least_behind-from : goal.returns-else-least_behind-from
 returns-else-least_behind-from c =
     let small : c.args.line.now.tail ≤ max_number = omega (arith, c.tail.ensures, c.from.ensures) in
     lt-leb c.least_behind.result c.from.result c.if-least_behind-from.false
-    ∙ next-test c.args.p c.args.n c.args.lines.now c.args.line.now c.least_behind.result false (is_tail_line c.args.p c.args.n c.args.lines.now c.args.line.now) small c.requires c.least_behind.ensures
-    (sym (lt-leb c.least_behind.result c.from.result c.if-least_behind-from.false) ∙ ap (λ (t : ℕ). leb c.least_behind.result t) (c.from.ensures ∙ c.tail.ensures)) refl
+    ∙ next-test c.args.p c.args.n c.args.lines.now c.args.line.now c.least_behind.result false
+    (is_tail_line c.args.p c.args.n c.args.lines.now c.args.line.now) small c.requires c.least_behind.ensures
+    (sym (lt-leb c.least_behind.result c.from.result c.if-least_behind-from.false)
+    ∙ ap (λ (t : ℕ). leb c.least_behind.result t) (c.from.ensures ∙ c.tail.ensures)) refl

@@ -27,7 +27,8 @@ commutator_read c =
 power_read : (c : goal.After-word-in-Power) → IsRead c.args.cover.now.answer (definition_of c.args.source) c.word-in-Power.result.now
 power_read c =
     relation-read c.args.cover.now.answer c.pcp-pcp.ensures.cover.answer (Power c.in-Power.j)
-    (definition_of c.args.source) c.pcp-pcp.result.now.presentation c.word-in-Power.result.now (ap definition_of (sym c.in-Power.is)) c.requires
+    (definition_of c.args.source) c.pcp-pcp.result.now.presentation c.word-in-Power.result.now
+    (ap definition_of (sym c.in-Power.is)) c.requires
     (ap (λ (T : TailedPresentation). T.presentation) c.pcp-pcp.ensures.presentation) c.word-in-Power.ensures
 
 image_read : (c : goal.After-image) → IsRead c.args.cover.now.answer (definition_of c.args.source) c.image.result.now

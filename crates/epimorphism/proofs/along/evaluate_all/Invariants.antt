@@ -9,4 +9,5 @@ invariant-loop-i g l =
     IsScratch l.pcp l.s
     × All (IsElement l.pcp) l.out
     × (length l.out ≡ length l.words)
-    × (take l.i l.out ≡ take l.i (value_elements l.pcp (g.C.Collect.meaning (rowed_presentation l.pcp)) l.images.elements l.images.inverses l.words))
+    × (take l.i l.out
+    ≡ take l.i (value_elements l.pcp (g.C.Collect.meaning (rowed_presentation l.pcp)) l.images.elements l.images.inverses l.words))

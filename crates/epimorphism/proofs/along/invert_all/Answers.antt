@@ -13,7 +13,8 @@ loop-i-preserved g c =
       c.inverse.ensures.scratch,
       All-set (IsElement T) c.loop-i.out c.loop-i.i c.inverse.new.out c.inverse.ensures.element inv.1,
       length-set c.loop-i.out c.loop-i.i c.inverse.new.out ∙ inv.2,
-      written_inverses-more T (g.C.Collect.meaning (rowed_presentation T)) c.args.elements.now c.loop-i.out c.loop-i.i c.index-elements-i.result
+      written_inverses-more T (g.C.Collect.meaning (rowed_presentation T)) c.args.elements.now c.loop-i.out c.loop-i.i
+          c.index-elements-i.result
           c.inverse.new.out l inv.2 c.index-elements-i.is inv.3
           (record { element = c.inverse.ensures.element; product = c.inverse.ensures.inverse }),
     )

@@ -58,7 +58,8 @@ returns-in-Power c =
     let source : IsSource A (definition_of (Power c.in-Power.j)) =
     subst (IsSource A) at (c.requires.sources c.args.k (image 0) (inside c.args.sources.now c.args.k c.requires.place)) in
     on_ok_weaker c.give-in-Power.result
-    (λ g. begun-more A c.pcp-conditions.ensures.answer.presentation ds c.args.builder.now c.give-in-Power.new.builder c.args.k c.requires.begun
+    (λ g. begun-more A c.pcp-conditions.ensures.answer.presentation ds c.args.builder.now c.give-in-Power.new.builder c.args.k
+    c.requires.begun
     (inside c.args.sources.now c.args.k c.requires.place) (PowerOf c.in-Power.j) at source g)
     c.give-in-Power.ensures.given
 

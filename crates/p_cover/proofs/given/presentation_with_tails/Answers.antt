@@ -16,5 +16,6 @@ returns c =
     let ds : List Source = map definition_of c.args.sources.now in
     c.finish.ensures
     ∙ complete-is A ds c.pcp-conditions.ensures.answer.presentation c.give_sources.new.builder c.give_others.new.builder
-    (subst (λ (k : ℕ). IsBegun A ds k c.give_sources.new.builder) (sym (length-map c.args.sources.now definition_of)) c.in_ok-give_sources.ensures)
+    (subst (λ (k : ℕ). IsBegun A ds k c.give_sources.new.builder)
+    (sym (length-map c.args.sources.now definition_of)) c.in_ok-give_sources.ensures)
     c.in_ok-give_others.ensures.given

@@ -5,4 +5,5 @@ use Rattle.p_cover.specs.Sources.{place_from, place_in}
 use Rattle.p_cover.proofs.image_tails.place_of_image.Given as goal
 
 abbrev pub invariant-loop-k : goal.invariant-loop-k
-invariant-loop-k l = place_from (suc l.k) (drop l.k (map definition_of l.sources)) (image l.i) ≡ place_in (map definition_of l.sources) (image l.i)
+invariant-loop-k l =
+    place_from (suc l.k) (drop l.k (map definition_of l.sources)) (image l.i) ≡ place_in (map definition_of l.sources) (image l.i)

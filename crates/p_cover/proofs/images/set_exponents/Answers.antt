@@ -8,18 +8,23 @@ use Rattle.p_cover.proofs.images.set_exponents.Goals as goal
 pub set_exponent-requires-clause-from_one : goal.set_exponent-requires-clause-from_one
 set_exponent-requires-clause-from_one c =
     let e = c.args.element.now in
-    (syllable-facts e.prime (length e.state.exponents) 0 c.args.word.now c.requires.word c.loop-s.s-index (syllable 0 0) c.loop-s-test.true).0
+    (syllable-facts e.prime (length e.state.exponents) 0 c.args.word.now c.requires.word c.loop-s.s-index
+    (syllable 0 0) c.loop-s-test.true).0
 
 pub set_exponent-requires-clause-in_range : goal.set_exponent-requires-clause-in_range
 set_exponent-requires-clause-in_range c =
     let e = c.args.element.now in
-    let facts = syllable-facts e.prime (length e.state.exponents) 0 c.args.word.now c.requires.word c.loop-s.s-index (syllable 0 0) c.loop-s-test.true in
+    let facts =
+    syllable-facts e.prime (length e.state.exponents) 0 c.args.word.now c.requires.word c.loop-s.s-index
+    (syllable 0 0) c.loop-s-test.true in
     omega (arith, facts.1, same_length c.loop-s.element e (drop c.loop-s.s-index c.args.word.now) c.args.word.now c.loop-s.invariant)
 
 pub set_exponent-requires-clause-residue : goal.set_exponent-requires-clause-residue
 set_exponent-requires-clause-residue c =
     let e = c.args.element.now in
-    let facts = syllable-facts e.prime (length e.state.exponents) 0 c.args.word.now c.requires.word c.loop-s.s-index (syllable 0 0) c.loop-s-test.true in
+    let facts =
+    syllable-facts e.prime (length e.state.exponents) 0 c.args.word.now c.requires.word c.loop-s.s-index
+    (syllable 0 0) c.loop-s-test.true in
     let prime : c.loop-s.element.prime ≡ e.prime = ap (λ (x : Element). x.prime) c.loop-s.invariant in
     omega (arith, facts.2)
 

@@ -11,5 +11,6 @@ returns-in-Some c =
     let n : ℕ = length e.state.row in
     c.add_tail.ensures
     ∙ ap (λ (x : List ℕ). with_state e (record { exponents = e.state.exponents; row = x }))
-    (ap (λ (x : List ℕ). row_sum e.prime x (unit_row n c.in-Some.t)) c.requires.zeros ∙ zeros_sum-unit e.prime n c.in-Some.t c.requires.prime
+    (ap (λ (x : List ℕ). row_sum e.prime x (unit_row n c.in-Some.t)) c.requires.zeros
+    ∙ zeros_sum-unit e.prime n c.in-Some.t c.requires.prime
     ∙ ap (row_of n) (sym c.in-Some.is))

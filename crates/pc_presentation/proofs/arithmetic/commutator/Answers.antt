@@ -7,7 +7,8 @@ use Rattle.pc_presentation.proofs.arithmetic.commutator.Goals as goal
 
 pub returns-clause-commutator : goal.returns-clause-commutator
 returns-clause-commutator g c =
-    ap (λ (s : State). product_by (rowed_presentation c.args.pcp.now) (g.C.Collect.meaning (rowed_presentation c.args.pcp.now)) s c.divide.new.out.state)
+    ap (λ (s : State). product_by (rowed_presentation c.args.pcp.now)
+    (g.C.Collect.meaning (rowed_presentation c.args.pcp.now)) s c.divide.new.out.state)
     (sym c.multiply_into.ensures.product)
     ∙ c.divide.ensures.quotient ∙ c.multiply_into-2.ensures.product
 

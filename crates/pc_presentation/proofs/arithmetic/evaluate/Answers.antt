@@ -9,5 +9,6 @@ multiply_along-requires-clause-element g c =
 pub returns-clause-joined : goal.returns-clause-joined
 returns-clause-joined g c =
     value_at-joined c.args.pcp.now c.requires.out.presentation (g.C.Collect.meaning (rowed_presentation c.args.pcp.now))
-    (g.met.C.Collect.reaches (rowed_presentation c.args.pcp.now)) c.args.images.now c.args.inverses.now c.args.word.now c.args.out.now c.clear.new.self
+    (g.met.C.Collect.reaches (rowed_presentation c.args.pcp.now)) c.args.images.now c.args.inverses.now c.args.word.now c.args.out.now
+    c.clear.new.self
     c.multiply_along.new.at c.requires.out c.clear.ensures c.multiply_along.ensures.value c.requires.images c.requires.letters

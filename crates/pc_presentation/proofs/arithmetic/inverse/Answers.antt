@@ -10,7 +10,8 @@ divide-requires-clause-out g c =
 
 pub returns-clause-inverse : goal.returns-clause-inverse
 returns-clause-inverse g c =
-    sym (ap (λ (e : Element). product_by (rowed_presentation c.args.pcp.now) (g.C.Collect.meaning (rowed_presentation c.args.pcp.now)) e.state c.divide.new.out.state)
+    sym (ap (λ (e : Element).
+    product_by (rowed_presentation c.args.pcp.now) (g.C.Collect.meaning (rowed_presentation c.args.pcp.now)) e.state c.divide.new.out.state)
     c.copy_from.ensures)
     ∙ c.divide.ensures.quotient
     ∙ ap (λ (e : Element). e.state)
@@ -19,5 +20,6 @@ returns-clause-inverse g c =
 pub returns-clause-joined : goal.returns-clause-joined
 returns-clause-joined g c =
     (arithmetic_at c.args.pcp.now c.requires.out.presentation (g.C.Collect.meaning (rowed_presentation c.args.pcp.now))
-    (g.met.C.Collect.reaches (rowed_presentation c.args.pcp.now))).inverses c.args.u.now.state c.divide.new.out.state c.requires.element.state
+    (g.met.C.Collect.reaches (rowed_presentation c.args.pcp.now))).inverses c.args.u.now.state c.divide.new.out.state
+    c.requires.element.state
     c.divide.ensures.out.state (returns-clause-inverse g c)

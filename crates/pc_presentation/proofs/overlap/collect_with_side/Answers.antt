@@ -18,8 +18,10 @@ returns-clause-collected g c =
     let is = c.requires.element.presentation in
     let positive = positive_prime T.presentation is.presentation in
     let push = g.C.Collect.meaning (rowed_presentation T) in
-    word-before T push is (g.met.C.Collect.reaches (rowed_presentation T) (rowed_presentation-is T is)) c.args.at.now c.collect.new.at c.push_word.new.at
-    (identity (rowed_presentation T) T.presentation.rank) (identity-state (rowed_presentation T) T.presentation.rank positive) c.args.word.now
+    word-before T push is (g.met.C.Collect.reaches (rowed_presentation T) (rowed_presentation-is T is)) c.args.at.now c.collect.new.at
+    c.push_word.new.at
+    (identity (rowed_presentation T) T.presentation.rank) (identity-state (rowed_presentation T) T.presentation.rank positive)
+    c.args.word.now
     (side_with_tail T c.args.relation) c.requires.generators c.collect.ensures.collected
     (c.push_word.ensures.pushed
     ∙ ap (λ (d : Configuration). with_state c.collect.new.at (push_configuration (rowed_presentation T) push c.collect.new.at.state d))

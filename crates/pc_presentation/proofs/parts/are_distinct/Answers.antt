@@ -6,8 +6,10 @@ use Rattle.pc_presentation.proofs.parts.are_distinct.Goals as goal
 
 pub returns-then-contains : goal.returns-then-contains
 returns-then-contains c =
-    let again = rw (take_rest c.args.names.now (c.loop-i.i + 1)) at c.if-contains.ensures.cases in
-    (λ e. absurd (false≢true e), λ distinct. absurd (repeated c.args.names.now c.loop-i.i again.0 c.index-names-i.result c.index-names-i.is again.1 again.2 distinct))
+    let again = rw (take_rest c.args.names.now (c.loop-i.i + 1)) at c.if-contains.ensures.cases in (
+      λ e. absurd (false≢true e),
+      λ distinct. absurd (repeated c.args.names.now c.loop-i.i again.0 c.index-names-i.result c.index-names-i.is again.1 again.2 distinct),
+    )
 
 pub loop-i-preserved : goal.loop-i-preserved
 loop-i-preserved c j k h l m =

@@ -13,8 +13,10 @@ returns-then-not-are_syllables c =
           let place = words_of-at c.args.images.now c.loop-word.word-index c.word-item.result [] (omega arith) c.word-item.is in
           let here : AreSyllables c.args.prime c.args.rank 0 (get_or (words_of c.args.images.now) c.loop-word.word-index []) =
           a c.loop-word.word-index [] (omega arith) in
-          let same : get_or (words_of c.args.images.now) c.loop-word.word-index [] ≡ c.deref.result.now = place ∙ sym c.deref.ensures.value in
-          absurd (false≢true (sym c.if-not-are_syllables.true ∙ c.are_syllables.ensures.1 (subst (AreSyllables c.args.prime c.args.rank 0) same here))),
+          let same : get_or (words_of c.args.images.now) c.loop-word.word-index [] ≡ c.deref.result.now =
+          place ∙ sym c.deref.ensures.value in
+          absurd (false≢true (sym c.if-not-are_syllables.true
+          ∙ c.are_syllables.ensures.1 (subst (AreSyllables c.args.prime c.args.rank 0) same here))),
     )
 
 pub loop-word-preserved : goal.loop-word-preserved
@@ -25,5 +27,6 @@ loop-word-preserved c k d h =
           let here : c.loop-word.word-index ≡ k = omega arith in
           let place = words_of-at c.args.images.now c.loop-word.word-index c.word-item.result d (omega arith) c.word-item.is in
           subst (λ (i : ℕ). AreSyllables c.args.prime c.args.rank 0 (get_or (words_of c.args.images.now) i d)) here
-          (subst (AreSyllables c.args.prime c.args.rank 0) (c.deref.ensures.value ∙ sym place) (c.are_syllables.ensures.0 c.if-not-are_syllables.false))
+          (subst (AreSyllables c.args.prime c.args.rank 0) (c.deref.ensures.value ∙ sym place)
+          (c.are_syllables.ensures.0 c.if-not-are_syllables.false))
     ]

@@ -35,8 +35,10 @@ loop-i-preserved g c =
     ap₂ (λ (a m : ℕ). (a + c.difference-times.result) % m) (sym c.exponent-in-loop-i.ensures) (sym c.prime-prime.ensures)
     ∙ c.difference-times.ensures.difference ∙ c.exponent.ensures in (
       c.push_times.ensures.serves,
-      division-next c.args.pcp.now (g.C.Collect.meaning (rowed_presentation c.args.pcp.now)) c.args.at.now c.args.out.now is meaning c.loop-i.at c.loop-i.out
-          c.push_times.new.at c.set_exponent.new.self ((c.loop-i.i + 1) - 1) c.loop-i.i c.difference-times.result (omega arith) c.loop-i.invariant.1 (omega arith)
+      division-next c.args.pcp.now (g.C.Collect.meaning (rowed_presentation c.args.pcp.now)) c.args.at.now c.args.out.now is meaning
+          c.loop-i.at c.loop-i.out
+          c.push_times.new.at c.set_exponent.new.self ((c.loop-i.i + 1) - 1) c.loop-i.i c.difference-times.result
+          (omega arith) c.loop-i.invariant.1 (omega arith)
           (omega arith) sum c.push_times.ensures.pushed c.set_exponent.ensures,
     )
 
@@ -47,8 +49,10 @@ returns-clause-out g c =
     let is = c.requires.at.presentation in
     let positive = prime-positive c.args.pcp.now c.args.at.now c.requires.at in
     let meaning = g.met.C.Collect.reaches (rowed_presentation c.args.pcp.now) (rowed_presentation-is c.args.pcp.now is) in
-    (quotient-ended c.args.pcp.now (g.C.Collect.meaning (rowed_presentation c.args.pcp.now)) c.args.at.now c.args.out.now is meaning c.requires.out c.loop-i.at
-    c.loop-i.out c.loop-i.i c.loop-i.invariant.1 (omega arith) c.add_scaled_tails.new.self c.loop-i.out.prime c.value.result c.tail.result.now.entries
+    (quotient-ended c.args.pcp.now (g.C.Collect.meaning (rowed_presentation c.args.pcp.now)) c.args.at.now c.args.out.now is meaning
+    c.requires.out c.loop-i.at
+    c.loop-i.out c.loop-i.i c.loop-i.invariant.1 (omega arith) c.add_scaled_tails.new.self c.loop-i.out.prime c.value.result
+    c.tail.result.now.entries
     c.loop-i.invariant.1.out_element.prime (c.value.ensures.value ∙ c.prime-prime.ensures) (ap (λ (r : PrimeRow). r.entries) c.tail.ensures)
     c.add_scaled_tails.ensures).0
 
@@ -59,7 +63,9 @@ returns-clause-quotient g c =
     let is = c.requires.at.presentation in
     let positive = prime-positive c.args.pcp.now c.args.at.now c.requires.at in
     let meaning = g.met.C.Collect.reaches (rowed_presentation c.args.pcp.now) (rowed_presentation-is c.args.pcp.now is) in
-    (quotient-ended c.args.pcp.now (g.C.Collect.meaning (rowed_presentation c.args.pcp.now)) c.args.at.now c.args.out.now is meaning c.requires.out c.loop-i.at
-    c.loop-i.out c.loop-i.i c.loop-i.invariant.1 (omega arith) c.add_scaled_tails.new.self c.loop-i.out.prime c.value.result c.tail.result.now.entries
+    (quotient-ended c.args.pcp.now (g.C.Collect.meaning (rowed_presentation c.args.pcp.now)) c.args.at.now c.args.out.now is meaning
+    c.requires.out c.loop-i.at
+    c.loop-i.out c.loop-i.i c.loop-i.invariant.1 (omega arith) c.add_scaled_tails.new.self c.loop-i.out.prime c.value.result
+    c.tail.result.now.entries
     c.loop-i.invariant.1.out_element.prime (c.value.ensures.value ∙ c.prime-prime.ensures) (ap (λ (r : PrimeRow). r.entries) c.tail.ensures)
     c.add_scaled_tails.ensures).1

@@ -31,8 +31,10 @@ loop-k-preserved g c =
     rw (to_z-of_z w32 (get_or c.args.word.now c.loop-k.k-index (pos 0)) f) at (c.value_of.ensures (one_of c.args.pcp.now)) in (
       c.multiply.ensures.serves,
       c.multiply.ensures.element,
-      letters-left c.args.pcp.now (g.C.Collect.meaning (rowed_presentation c.args.pcp.now)) c.args.images.now c.args.inverses.now c.loop-k.at c.multiply.new.at
+      letters-left c.args.pcp.now (g.C.Collect.meaning (rowed_presentation c.args.pcp.now)) c.args.images.now c.args.inverses.now
+          c.loop-k.at c.multiply.new.at
           c.value_of.result.now c.loop-k.k-index c.args.word.now (pos 0) c.loop-k-test.true
-          (IsLetter-get_or (length c.args.images.now) c.args.word.now c.loop-k.k-index (pos 0) c.requires.letters c.loop-k-test.true) value c.multiply.ensures.product
+          (IsLetter-get_or (length c.args.images.now) c.args.word.now c.loop-k.k-index (pos 0) c.requires.letters c.loop-k-test.true) value
+          c.multiply.ensures.product
           ∙ c.loop-k.invariant.2,
     )

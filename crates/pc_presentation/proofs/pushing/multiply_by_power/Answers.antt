@@ -28,9 +28,11 @@ loop-rest-preserved g c =
       c.square.ensures.spare,
       square-joined (flat Y) (word_of Y c.loop-rest.at.state) (word_of Y c.loop-rest.base.state) (word_of Y c.multiply_if_odd.new.at.state)
           (word_of Y c.square.new.base.state)
-          (word_of Y c.args.at.now.state ++ copies (word_of Y c.args.base.now.state) c.args.exponent) c.loop-rest.rest c.multiply_if_odd.ensures.joined
+          (word_of Y c.args.at.now.state ++ copies (word_of Y c.args.base.now.state) c.args.exponent) c.loop-rest.rest
+          c.multiply_if_odd.ensures.joined
           (product_at-joined c.args.pcp.now base.presentation (g.C.Collect.meaning (rowed_presentation c.args.pcp.now))
-          (g.met.C.Collect.reaches (rowed_presentation c.args.pcp.now)) c.loop-rest.base.state c.loop-rest.base.state c.square.new.base.state base.state base.state
+          (g.met.C.Collect.reaches (rowed_presentation c.args.pcp.now)) c.loop-rest.base.state c.loop-rest.base.state
+          c.square.new.base.state base.state base.state
           c.square.ensures.square)
           c.loop-rest.invariant.4,
     )

@@ -14,7 +14,8 @@ invariant-loop-rest g l =
     × IsElement l.pcp l.at
     × IsElement l.pcp l.base
     × IsElement l.pcp l.spare
-    × Joined (flat Y) (word_of Y l.at.state ++ copies (word_of Y l.base.state) l.rest) (word_of Y l.fn.at.state ++ copies (word_of Y l.fn.base.state) l.exponent)
+    × Joined (flat Y) (word_of Y l.at.state ++ copies (word_of Y l.base.state) l.rest)
+    (word_of Y l.fn.at.state ++ copies (word_of Y l.fn.base.state) l.exponent)
 
 abbrev pub decreases-loop-rest : goal.decreases-loop-rest
 decreases-loop-rest g l = l.rest

@@ -10,5 +10,6 @@ returns-then-times-gt0-clause-pushed g c =
     let is = c.requires.element.presentation in
     c.push_word.ensures.pushed
     ∙ ap (with_state c.args.at.now)
-    (push_configuration-power T (g.C.Collect.meaning (rowed_presentation T)) is (g.met.C.Collect.reaches (rowed_presentation T) (rowed_presentation-is T is))
+    (push_configuration-power T (g.C.Collect.meaning (rowed_presentation T)) is
+    (g.met.C.Collect.reaches (rowed_presentation T) (rowed_presentation-is T is))
     c.args.at.now.state c.requires.element.state c.args.generator c.args.times c.requires.from_one c.requires.in_range)

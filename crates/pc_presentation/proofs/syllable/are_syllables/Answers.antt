@@ -1,6 +1,7 @@
 use Rattle.std.proofs.Common.{sym, ◌∙◌}
 use Rattle.std.proofs.lemmas.Bool.{both_ways}
-use Rattle.pc_presentation.proofs.presentations.WordTests.{AreLater-zero, AreSyllables-from_tests, AreGenerators-AreSyllables, normal_from-AreSyllables}
+use Rattle.pc_presentation.proofs.presentations.WordTests.{AreLater-zero, AreSyllables-from_tests, AreGenerators-AreSyllables}
+use Rattle.pc_presentation.proofs.presentations.WordTests.{normal_from-AreSyllables}
 use Rattle.pc_presentation.proofs.syllable.are_syllables.Goals as goal
 
 pub returns-then-are_generators : goal.returns-then-are_generators

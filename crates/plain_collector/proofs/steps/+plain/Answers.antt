@@ -29,7 +29,8 @@ push-raise-requires t c =
       omega arith,
       (
         subst (λ (e : Element). IsElement c.args.pcp.now e) (sym c.clear_between.ensures)
-            (cleared_between-element T c.args.at.now c.requires.element (c.args.generator - 1) (c.commuting_from-commuting.result - 1) first.after first.within),
+            (cleared_between-element T c.args.at.now c.requires.element (c.args.generator - 1)
+            (c.commuting_from-commuting.result - 1) first.after first.within),
         (c.requires.from_one, c.requires.in_range),
       ),
     )
@@ -48,7 +49,8 @@ push-loop-j-preserved t c =
       c.pass.ensures.element,
       c.loop-j.invariant.1,
       spelled-left (passed (rowed_presentation T) (c.args.generator - 1)) c.loop-j.at c.pass.new.at c.loop-j.j
-          (get_or c.exponents_between-later.result c.loop-j.j 0) (take (c.commuting_from-commuting.result - 1) c.args.at.now.state.exponents) inside entry c.pass.ensures.passed
+          (get_or c.exponents_between-later.result c.loop-j.j 0)
+          (take (c.commuting_from-commuting.result - 1) c.args.at.now.state.exponents) inside entry c.pass.ensures.passed
           ∙ c.loop-j.invariant.2,
     )
 
@@ -56,8 +58,10 @@ pub push-returns-clause-pushed : goal.push-returns-clause-pushed
 push-returns-clause-pushed t c =
     let T = c.args.pcp.now in
     let test = c.loop-j-test.false in
-    push-made T c.args.at.now c.clear_between.new.self c.raise.new.at c.loop-j.at c.args.generator (c.commuting_from-commuting.result - 1) c.loop-j.j
-    c.requires.element c.requires.from_one c.requires.in_range c.commuting_from-commuting.ensures c.clear_between.ensures c.raise.ensures.raised
+    push-made T c.args.at.now c.clear_between.new.self c.raise.new.at c.loop-j.at c.args.generator
+    (c.commuting_from-commuting.result - 1) c.loop-j.j
+    c.requires.element c.requires.from_one c.requires.in_range c.commuting_from-commuting.ensures c.clear_between.ensures
+    c.raise.ensures.raised
     c.loop-j.invariant.2 (omega arith)
 
 -- the exponent raised
@@ -112,13 +116,16 @@ pub pass-returns-then-is_empty-clause-passed : goal.pass-returns-then-is_empty-c
 pass-returns-then-is_empty-clause-passed t c =
     let T = c.args.pcp.now in
     let r = c.requires.relation in
-    let zeros = side-empty T c.requires.element.presentation (Commutator c.args.j c.args.i) c.word.result.now c.requires.relation c.word.ensures
+    let zeros =
+    side-empty T c.requires.element.presentation (Commutator c.args.j c.args.i) c.word.result.now c.requires.relation c.word.ensures
     (grind (arith, c.is_empty.ensures, c.if-is_empty.true)) in
-    passed-together T c.requires.element.presentation c.args.at.now c.push_times.new.at c.add_tail_times.new.at c.args.j c.args.i c.args.times r.0 r.1 r.2
+    passed-together T c.requires.element.presentation c.args.at.now c.push_times.new.at c.add_tail_times.new.at c.args.j c.args.i
+    c.args.times r.0 r.1 r.2
     zeros c.push_times.ensures.pushed
     (c.add_tail_times.ensures.added
     ∙ ap (λ (x : Option ℕ). with_state c.push_times.new.at
-    (add_row_times c.args.pcp.now.presentation.prime (row_of c.args.pcp.now.tails x) c.args.times c.push_times.new.at.state)) c.tail.ensures)
+    (add_row_times c.args.pcp.now.presentation.prime (row_of c.args.pcp.now.tails x) c.args.times c.push_times.new.at.state))
+    c.tail.ensures)
 
 pub pass_each-loop-preserved : goal.pass_each-loop-preserved
 pass_each-loop-preserved t c =
@@ -128,7 +135,8 @@ pass_each-loop-preserved t c =
     c.push.ensures.pushed c.push_side.ensures.pushed in
     let test = c.loop-test.true in (
       c.push_side.ensures.element,
-      copies-left (passed (rowed_presentation T) (c.args.i - 1)) c.loop.at c.push_side.new.at c.args.times c.loop.counter (c.args.j - 1) (omega arith) step
+      copies-left (passed (rowed_presentation T) (c.args.i - 1)) c.loop.at c.push_side.new.at c.args.times c.loop.counter (c.args.j - 1)
+          (omega arith) step
           ∙ c.loop.invariant.1,
     )
 
@@ -140,7 +148,8 @@ push_side-push_times-requires t c =
     let test = c.loop-s-test.true in
     let d : Syllable = record { generator = 0; exponent = 0 } in
     let inside : c.loop-s.s-index < length c.word-s-items.result.now = omega arith in
-    let letter = side-generators T c.requires.element.presentation c.args.relation c.requires.relation c.word-s-items.result.now c.word-s-items.ensures
+    let letter =
+    side-generators T c.requires.element.presentation c.args.relation c.requires.relation c.word-s-items.result.now c.word-s-items.ensures
     c.loop-s.s-index d inside in
     let later = side-later T.presentation c.args.relation c.word-s-items.result.now c.word-s-items.ensures c.loop-s.s-index d inside in
     let from_one = letter.0 in
@@ -171,7 +180,8 @@ push_side-returns-clause-pushed t c =
     ∙ ap (after (plain_push (rowed_presentation T)) c.args.at.now)
     (ap places_of c.word-s-items.ensures ∙ places_of-syllables_of (side_start c.args.relation) (right_side T.presentation c.args.relation)))
     (c.add_tail.ensures.added
-    ∙ ap (λ (t : Option ℕ). with_state c.loop-s.at (add_row c.args.pcp.now.presentation.prime (row_of c.args.pcp.now.tails t) c.loop-s.at.state)) c.tail.ensures)
+    ∙ ap (λ (t : Option ℕ). with_state c.loop-s.at
+    (add_row c.args.pcp.now.presentation.prime (row_of c.args.pcp.now.tails t) c.loop-s.at.state)) c.tail.ensures)
 
 -- copies of a generator
 pub push_times-overflow_sub-missing : goal.push_times-overflow_sub-missing
@@ -208,7 +218,8 @@ push_copies-returns-then-commutes_with_later-clause-element t c =
     let room = c.if-times-value.true in
     let is = c.exponent-exponent.ensures in
     subst (λ (e : Element). IsElement c.args.pcp.now e) (sym c.set_exponent.ensures)
-    (set-element c.args.pcp.now c.args.at.now c.requires.element (c.args.generator - 1) (c.exponent-exponent.result + c.args.times) (omega arith))
+    (set-element c.args.pcp.now c.args.at.now c.requires.element (c.args.generator - 1) (c.exponent-exponent.result + c.args.times)
+    (omega arith))
 
 pub push_copies-returns-then-commutes_with_later-clause-pushed : goal.push_copies-returns-then-commutes_with_later-clause-pushed
 push_copies-returns-then-commutes_with_later-clause-pushed t c =
@@ -234,10 +245,13 @@ push_past_prime-add_tail-requires-clause-tail t c =
 pub push_past_prime-returns-then-commutes_with_later-clause-pushed : goal.push_past_prime-returns-then-commutes_with_later-clause-pushed
 push_past_prime-returns-then-commutes_with_later-clause-pushed t c =
     let T = c.args.pcp.now in
-    let zeros = side-empty T c.requires.element.presentation (Power c.args.generator) c.word.result.now (c.requires.from_one, c.requires.in_range) c.word.ensures
+    let zeros =
+    side-empty T c.requires.element.presentation (Power c.args.generator) c.word.result.now
+    (c.requires.from_one, c.requires.in_range) c.word.ensures
     (grind (arith, c.is_empty.ensures, c.if-is_empty.true)) in
     copies-wrapped T c.args.at.now c.requires.element c.args.generator c.args.times c.requires.from_one c.requires.in_range
-    c.args.rest c.requires.total c.requires.rest c.set_exponent.new.self c.add_tail.new.at (c.commutes_with_later.ensures.0 c.if-commutes_with_later.true)
+    c.args.rest c.requires.total c.requires.rest c.set_exponent.new.self c.add_tail.new.at
+    (c.commutes_with_later.ensures.0 c.if-commutes_with_later.true)
     zeros c.set_exponent.ensures
     (c.add_tail.ensures.added
     ∙ ap (λ (x : Option ℕ). with_state c.set_exponent.new.self

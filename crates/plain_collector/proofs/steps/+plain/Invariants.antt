@@ -49,7 +49,8 @@ abbrev pub invariant-push-loop-j : goal.invariant-push-loop-j
 invariant-push-loop-j l =
     IsElement l.pcp l.at
     × AreBetween l.generator (l.commuting - 1) l.fn.at.state.exponents l.later
-    × (after (passed (rowed_presentation l.pcp) (l.generator - 1)) l.at (spelled l.j (drop l.j (take (l.commuting - 1) l.fn.at.state.exponents)))
+    × (after (passed (rowed_presentation l.pcp) (l.generator - 1)) l.at
+    (spelled l.j (drop l.j (take (l.commuting - 1) l.fn.at.state.exponents)))
     ≡ after (passed (rowed_presentation l.pcp) (l.generator - 1)) l.initial.at
     (spelled l.generator (drop l.generator (take (l.commuting - 1) l.fn.at.state.exponents))))
 

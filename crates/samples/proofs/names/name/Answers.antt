@@ -6,4 +6,5 @@ use Rattle.samples.proofs.names.name.Goals as goal
 
 pub unreachable-requires : goal.unreachable-requires
 unreachable-requires c =
-    c.in-None.ensures.none (subst IsName (sym (c.as_bytes.ensures.value ∙ c.in_ok-text.ensures.ok)) (IsName-of_number c.args.i (omega arith)))
+    c.in-None.ensures.none (subst IsName (sym (c.as_bytes.ensures.value ∙ c.in_ok-text.ensures.ok))
+    (IsName-of_number c.args.i (omega arith)))

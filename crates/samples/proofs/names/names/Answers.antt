@@ -7,7 +7,8 @@ use Rattle.samples.proofs.SampleNames.{name_of_number}
 use Rattle.samples.proofs.names.names.Goals as goal
 
 pub loop-k-preserved : goal.loop-k-preserved
-loop-k-preserved c = rw (c.in_ok-push.ensures.items, c.loop-k.invariant, c.in_ok-name.ensures) (sym (map_numbers-more name_of_number c.loop-k.k))
+loop-k-preserved c =
+    rw (c.in_ok-push.ensures.items, c.loop-k.invariant, c.in_ok-name.ensures) (sym (map_numbers-more name_of_number c.loop-k.k))
 
 pub returns : goal.returns
 unfolding sample_names

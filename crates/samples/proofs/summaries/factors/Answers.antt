@@ -9,4 +9,5 @@ loop-k-preserved c =
     let weights = c.args.answer.now.weights in
     let count : c.count_of-count.result ≡ count_of (c.loop-k.k + 1) weights =
     c.count_of-count.ensures ∙ ap (λ (ws : List ℕ). count_of (c.loop-k.k + 1) ws) c.pcp.ensures.weights in
-    rw (c.in_ok-push_str.ensures.bytes, c.loop-k.invariant, c.deref.ensures, c.in_ok-number.ensures.ok, count) (sym (factors_text-more c.loop-k.k weights))
+    rw (c.in_ok-push_str.ensures.bytes, c.loop-k.invariant, c.deref.ensures, c.in_ok-number.ensures.ok, count)
+    (sym (factors_text-more c.loop-k.k weights))

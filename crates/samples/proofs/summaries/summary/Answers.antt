@@ -10,6 +10,9 @@ returns c =
     let A : Answer = c.args.answer.now in
     let prime : c.value-prime.result ≡ A.presentation.prime =
     c.value-prime.ensures.value ∙ c.prime.ensures ∙ ap (λ (P : Presentation). P.prime) c.pcp.ensures.presentation in
-    let rank : c.rank-rank.result ≡ A.presentation.rank = c.rank-rank.ensures.rank ∙ ap (λ (P : Presentation). P.rank) c.pcp-2.ensures.presentation in
+    let rank : c.rank-rank.result ≡ A.presentation.rank =
+    c.rank-rank.ensures.rank ∙ ap (λ (P : Presentation). P.rank) c.pcp-2.ensures.presentation in
     ap (λ (v : Vec ℕ Global). v.items) c.into_bytes.ensures.value
-    ∙ rw c.in_ok-text.ensures.ok (simp append_assoc (summary_written c.args.n A _ _ _ _ _ prime c.class-class.ensures rank c.in_ok-factors.ensures c.exponent_sum-images.ensures))
+    ∙ rw c.in_ok-text.ensures.ok
+    (simp append_assoc (summary_written c.args.n A _ _ _ _ _ prime c.class-class.ensures rank c.in_ok-factors.ensures
+    c.exponent_sum-images.ensures))

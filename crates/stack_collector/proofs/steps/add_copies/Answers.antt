@@ -48,5 +48,6 @@ returns-then-is_empty-clause-added c =
 pub returns-else-copies-missing-2-clause-added : goal.returns-else-copies-missing-2-clause-added
 returns-else-copies-missing-2-clause-added c =
     let enough = c.if-copies-missing.false in
-    copies-behind c.args.pcp.now c.args.at.now c.add_below-else-copies-missing-2.new.at c.args.copies (c.value-prime.result - c.exponent.result - 1) (c.args.generator - 1)
+    copies-behind c.args.pcp.now c.args.at.now c.add_below-else-copies-missing-2.new.at c.args.copies
+    (c.value-prime.result - c.exponent.result - 1) (c.args.generator - 1)
     (omega arith) c.add_below-else-copies-missing-2.ensures.added

@@ -24,7 +24,8 @@ returns-clause-added c = λ n total.
     let T = c.args.pcp.now in
     let zeros = side-empty T c.requires.element.presentation (Power c.args.generator) (side_word T.presentation (Power c.args.generator))
     (c.requires.from_one, c.requires.in_range) refl c.requires.empty in
-    copies-wrapped T c.args.at.now c.requires.element c.args.generator n c.requires.from_one c.requires.in_range c.args.rest total c.requires.rest
+    copies-wrapped T c.args.at.now c.requires.element c.args.generator n c.requires.from_one c.requires.in_range c.args.rest total
+    c.requires.rest
     c.set_exponent.new.self c.add_tail.new.at c.requires.commutes zeros c.set_exponent.ensures
     (c.add_tail.ensures.added
     ∙ ap (λ (x : Option ℕ). with_state c.set_exponent.new.self

@@ -50,7 +50,8 @@ returns-then-left-gt0 c =
     let s = get_or c.word-word.result.now m d in
     let kept = c.loop-place.invariant in
     subst (λ (f : Frame).
-    IsPush c.args.pcp.now c.args.frame.now c.args.at.now s.generator (with_copies (with_syllable (with_place f m) s) (c.add_copies-left.result - 1))
+    IsPush c.args.pcp.now c.args.frame.now c.args.at.now s.generator
+    (with_copies (with_syllable (with_place f m) s) (c.add_copies-left.result - 1))
     c.add_copies-left.new.at) (sym kept.1)
     (letter-left c.args.pcp.now c.requires.element.presentation c.args.frame.now c.args.at.now c.loop-place.at m c.word-word.result.now s d
     c.requires.none_before kept.3 kept.0 c.loop-place-test.true refl c.add_copies-left.new.at c.add_copies-left.ensures.element

@@ -44,7 +44,8 @@ returns-then-exponent-value-clause-raised c =
     let prime = c.prime.ensures in
     let same = c.if-exponent-value.true in
     let past : suc (get_or c.args.at.now.state.exponents (c.args.generator - 1) 0) ≡ c.args.pcp.now.presentation.prime = omega arith in
-    raised-past c.args.pcp.now c.args.at.now c.set_exponent.new.self c.add_tail.new.at c.args.generator c.requires.element c.requires.from_one
+    raised-past c.args.pcp.now c.args.at.now c.set_exponent.new.self c.add_tail.new.at c.args.generator c.requires.element
+    c.requires.from_one
     c.requires.in_range past c.set_exponent.ensures
     (c.add_tail.ensures.added
     ∙ ap (λ (x : Option ℕ). with_state c.set_exponent.new.self

@@ -8,5 +8,6 @@ use Rattle.tails_by_weight.proofs.sources.push_commutators_of.Goals as goal
 pub loop-k-preserved : goal.loop-k-preserved
 loop-k-preserved c =
     wanted-more c.args.answer.now (class_of c.args.answer.now) c.args.qualifying (λ i. commutator c.args.j i) c.loop-k.k
-    (map definition_of c.args.sources.now.items) (map definition_of c.loop-k.sources.items) (map definition_of c.push_wanted.new.sources.items)
+    (map definition_of c.args.sources.now.items) (map definition_of c.loop-k.sources.items)
+    (map definition_of c.push_wanted.new.sources.items)
     c.loop-k.invariant c.in_ok-push_wanted.ensures

@@ -20,10 +20,12 @@ loop-k-init g c =
     let none : c.new-recorded.result.items ≡ [] = search rules in (
       subst (λ (rs : List Relator). IsSpunGrown c.args.pres.now rs (prime_value c.args.prime) 0 c.in_ok-answer.answer) (sym none)
           (spun-first c.args.pres.now c.args.prime c.names.result.now c.in_ok-answer.answer c.names.ensures.names
-          c.names.ensures.limits.some_generator c.names.ensures.limits.generators c.names.ensures.presentation.distinct c.in_ok-answer.ensures),
+          c.names.ensures.limits.some_generator c.names.ensures.limits.generators c.names.ensures.presentation.distinct
+          c.in_ok-answer.ensures),
       (λ steps h. ap length (c.requires.log steps h)),
       (λ steps. (λ h. h, λ h. h)),
-      (λ kept. holds-none g.L.Log.FULL (part c.args.pres.now iterated_part) g.C.Collect.meaning (prime_value c.args.prime) (g.L.Log.keeps c.args.log.now c.args.run)
+      (λ kept. holds-none g.L.Log.FULL (part c.args.pres.now iterated_part) g.C.Collect.meaning (prime_value c.args.prime)
+          (g.L.Log.keeps c.args.log.now c.args.run)
           c.names.result.now c.in_ok-answer.answer kept c.names.ensures.names c.in_ok-answer.ensures),
     )
 
@@ -74,7 +76,8 @@ returns-in-Same-clause-enough g c =
 
 pub returns-in-Same-clause-held : goal.returns-in-Same-clause-held
 returns-in-Same-clause-held g c kept =
-    holds-stopped g.L.Log.FULL (part c.args.pres.now iterated_part) g.C.Collect.meaning (prime_value c.args.prime) (g.L.Log.keeps c.loop-k.log c.args.run)
+    holds-stopped g.L.Log.FULL (part c.args.pres.now iterated_part) g.C.Collect.meaning (prime_value c.args.prime)
+    (g.L.Log.keeps c.loop-k.log c.args.run)
     (g.L.Log.keeps c.spun_class.new.log c.args.run) c.loop-k.k c.args.class c.loop-k.answer (c.loop-k.invariant.3 kept)
     (subst (IsLogged g.L.Log.FULL (part c.args.pres.now iterated_part) g.C.Collect.meaning c.loop-k.answer
     (g.L.Log.keeps c.loop-k.log c.args.run) (g.L.Log.keeps c.spun_class.new.log c.args.run)) c.in-Same.is c.in_ok-next.ensures.logged)
@@ -98,7 +101,8 @@ returns-in-TooLarge-clause-refusal g c = (
 
 pub returns-in-TooLarge-clause-refused : goal.returns-in-TooLarge-clause-refused
 returns-in-TooLarge-clause-refused g c kept =
-    holds-too_large g.L.Log.FULL (part c.args.pres.now iterated_part) g.C.Collect.meaning (prime_value c.args.prime) (g.L.Log.keeps c.loop-k.log c.args.run)
+    holds-too_large g.L.Log.FULL (part c.args.pres.now iterated_part) g.C.Collect.meaning (prime_value c.args.prime)
+    (g.L.Log.keeps c.loop-k.log c.args.run)
     (g.L.Log.keeps c.spun_class.new.log c.args.run) c.loop-k.k c.args.class c.in-TooLarge.rank c.args.run c.loop-k.answer
     (c.loop-k.invariant.3 kept)
     (rank-few c.loop-k.answer.presentation c.pcp.result.now c.pcp.ensures.presentation c.rank-rank.ensures.presentation)
@@ -124,7 +128,8 @@ loop-k-preserved g c =
       (λ kept. holds-next g.L.Log.FULL (part c.args.pres.now iterated_part) g.C.Collect.meaning p (g.L.Log.keeps c.loop-k.log c.args.run)
           (g.L.Log.keeps c.spun_class.new.log c.args.run) c.loop-k.k c.loop-k.answer c.in-Next.next (c.loop-k.invariant.3 kept)
           (subst (IsLogged g.L.Log.FULL (part c.args.pres.now iterated_part) g.C.Collect.meaning c.loop-k.answer
-          (g.L.Log.keeps c.loop-k.log c.args.run) (g.L.Log.keeps c.spun_class.new.log c.args.run)) c.in-Next.is c.in_ok-next.ensures.logged)),
+          (g.L.Log.keeps c.loop-k.log c.args.run) (g.L.Log.keeps c.spun_class.new.log c.args.run)) c.in-Next.is
+          c.in_ok-next.ensures.logged)),
     )
 
 pub returns-clause-quotient : goal.returns-clause-quotient
@@ -151,5 +156,6 @@ returns-clause-other g c = c.loop-k.invariant.2
 
 pub returns-clause-held : goal.returns-clause-held
 returns-clause-held g c kept =
-    holds-whole g.L.Log.FULL (part c.args.pres.now iterated_part) g.C.Collect.meaning (prime_value c.args.prime) (g.L.Log.keeps c.loop-k.log c.args.run)
+    holds-whole g.L.Log.FULL (part c.args.pres.now iterated_part) g.C.Collect.meaning (prime_value c.args.prime)
+    (g.L.Log.keeps c.loop-k.log c.args.run)
     c.loop-k.k c.args.class c.loop-k.answer (c.loop-k.invariant.3 kept) (omega (arith, c.loop-k-test.false, c.loop-k.auto.k-end))

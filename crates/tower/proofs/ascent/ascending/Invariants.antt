@@ -15,4 +15,5 @@ invariant-loop-k g l =
     × ((steps : List HeldStep) → g.L.Log.keeps l.log l.fn.part steps → length steps ≡ l.k)
     × KeepsTheSame (g.L.Log.keeps l.fn.log (other_run l.fn.part)) (g.L.Log.keeps l.log (other_run l.fn.part))
     × (g.L.Log.keeps l.fn.log l.fn.part []
-    → HoldsSteps g.L.Log.FULL (part l.fn.pres iterated_part) g.C.Collect.meaning (prime_value l.fn.prime) l.k (g.L.Log.keeps l.log l.fn.part) l.answer)
+    → HoldsSteps g.L.Log.FULL (part l.fn.pres iterated_part) g.C.Collect.meaning (prime_value l.fn.prime) l.k
+    (g.L.Log.keeps l.log l.fn.part) l.answer)

@@ -11,7 +11,8 @@ use Rattle.tower.specs.StepRows.{StepRows}
 use Rattle.tower.proofs.ClassSteps.{cover-meaning}
 use Rattle.tower.proofs.InducedStages.{stages_induce}
 use Rattle.tower.proofs.SpunSteps.{uncarried-die}
-use Rattle.tower.proofs.ClosingRelators.{IsNamedBy, named-by, closing-rows, closing-matrices, closing-closed, closing-iterated, closing-suffice}
+use Rattle.tower.proofs.ClosingRelators.{IsNamedBy, named-by, closing-rows, closing-matrices, closing-closed, closing-iterated}
+use Rattle.tower.proofs.ClosingRelators.{closing-suffice}
 use Rattle.tower.proofs.closing.closing_relators.Goals as goal
 
 pub iterated_rows-requires-clause-killed : goal.iterated_rows-requires-clause-killed
@@ -31,7 +32,8 @@ close-requires-clause-rows g c =
     subst (AreOver K.prime K.width) (sym c.deref.ensures.value)
     (closing-rows c.args.pres.now c.names-names.ensures.presentation (class_of C.answer) C c.pcp-pcp.ensures.cover push
     (cover-meaning g.C.Collect.meaning g.met.C.Collect.reaches C c.pcp-pcp.ensures.cover) c.requires.stage c.in_ok-matrices.matrices.items
-    c.in_ok-matrices.ensures.lifts c.in_ok-given.given.items c.in_ok-given.ensures.rows c.args.rows.now c.requires.over c.requires.overlaps c.requires.trivial
+    c.in_ok-matrices.ensures.lifts c.in_ok-given.given.items c.in_ok-given.ensures.rows c.args.rows.now c.requires.over c.requires.overlaps
+    c.requires.trivial
     c.rows.inside.basis K (ap (λ (R : StepRows). R.basis) c.rows.view_is) c.in_ok-overlaps.ensures)
 
 pub close-requires-clause-matrices : goal.close-requires-clause-matrices
@@ -42,7 +44,8 @@ close-requires-clause-matrices g c =
     subst (AreMatricesOver K.prime K.width) (sym c.deref-2.ensures.value)
     (closing-matrices c.args.pres.now c.names-names.ensures.presentation (class_of C.answer) C c.pcp-pcp.ensures.cover push
     (cover-meaning g.C.Collect.meaning g.met.C.Collect.reaches C c.pcp-pcp.ensures.cover) c.requires.stage c.in_ok-matrices.matrices.items
-    c.in_ok-matrices.ensures.lifts c.in_ok-given.given.items c.in_ok-given.ensures.rows c.args.rows.now c.requires.over c.requires.overlaps c.requires.trivial
+    c.in_ok-matrices.ensures.lifts c.in_ok-given.given.items c.in_ok-given.ensures.rows c.args.rows.now c.requires.over c.requires.overlaps
+    c.requires.trivial
     c.rows.inside.basis K (ap (λ (R : StepRows). R.basis) c.rows.view_is) c.in_ok-overlaps.ensures)
 
 pub close-requires-clause-closed : goal.close-requires-clause-closed
@@ -53,7 +56,8 @@ close-requires-clause-closed g c =
     subst (λ (ms : List PrimeMatrix). IsClosed K.prime K.width ms K.added) (sym c.deref-2.ensures.value)
     (closing-closed c.args.pres.now c.names-names.ensures.presentation (class_of C.answer) C c.pcp-pcp.ensures.cover push
     (cover-meaning g.C.Collect.meaning g.met.C.Collect.reaches C c.pcp-pcp.ensures.cover) c.requires.stage c.in_ok-matrices.matrices.items
-    c.in_ok-matrices.ensures.lifts c.in_ok-given.given.items c.in_ok-given.ensures.rows c.args.rows.now c.requires.over c.requires.overlaps c.requires.trivial
+    c.in_ok-matrices.ensures.lifts c.in_ok-given.given.items c.in_ok-given.ensures.rows c.args.rows.now c.requires.over c.requires.overlaps
+    c.requires.trivial
     c.rows.inside.basis K (ap (λ (R : StepRows). R.basis) c.rows.view_is) c.in_ok-overlaps.ensures)
 
 pub returns-clause-iterated : goal.returns-clause-iterated
@@ -70,9 +74,11 @@ returns-clause-iterated g c =
     IfOk-weaker c.relators_of.result _ _
     (λ rs are.
     closing-iterated c.args.pres.now c.names-names.ensures.presentation (class_of C.answer) C c.pcp-pcp.ensures.cover push
-    (cover-meaning g.C.Collect.meaning g.met.C.Collect.reaches C c.pcp-pcp.ensures.cover) c.requires.stage ms c.in_ok-matrices.ensures.lifts xs
+    (cover-meaning g.C.Collect.meaning g.met.C.Collect.reaches C c.pcp-pcp.ensures.cover) c.requires.stage ms c.in_ok-matrices.ensures.lifts
+    xs
     c.in_ok-given.ensures.rows c.args.rows.now c.requires.over c.requires.overlaps c.requires.trivial c.rows.inside.basis K
-    (ap (λ (R : StepRows). R.basis) c.rows.view_is) c.in_ok-overlaps.ensures c.in_ok-_basis._basis.added names closed rs.items are) c.relators_of.ensures
+    (ap (λ (R : StepRows). R.basis) c.rows.view_is) c.in_ok-overlaps.ensures c.in_ok-_basis._basis.added names closed rs.items are)
+    c.relators_of.ensures
 
 pub returns-clause-suffice : goal.returns-clause-suffice
 returns-clause-suffice g c =
@@ -88,6 +94,8 @@ returns-clause-suffice g c =
     IfOk-weaker c.relators_of.result _ _
     (λ rs are.
     closing-suffice c.args.pres.now c.names-names.ensures.presentation (class_of C.answer) C c.pcp-pcp.ensures.cover push
-    (cover-meaning g.C.Collect.meaning g.met.C.Collect.reaches C c.pcp-pcp.ensures.cover) c.requires.stage ms c.in_ok-matrices.ensures.lifts xs
+    (cover-meaning g.C.Collect.meaning g.met.C.Collect.reaches C c.pcp-pcp.ensures.cover) c.requires.stage ms c.in_ok-matrices.ensures.lifts
+    xs
     c.in_ok-given.ensures.rows c.args.rows.now c.requires.over c.requires.overlaps c.requires.trivial c.rows.inside.basis K
-    (ap (λ (R : StepRows). R.basis) c.rows.view_is) c.in_ok-overlaps.ensures c.in_ok-_basis._basis.added names closed rs.items are) c.relators_of.ensures
+    (ap (λ (R : StepRows). R.basis) c.rows.view_is) c.in_ok-overlaps.ensures c.in_ok-_basis._basis.added names closed rs.items are)
+    c.relators_of.ensures

@@ -10,7 +10,9 @@ pub insert-requires-clause-width : goal.insert-requires-clause-width
 insert-requires-clause-width c =
     let B = c.args.basis.now in
     let i : ℕ = c.loop-i.i + 1 - 1 in
-    let row = AreRows-entry B.prime B.width B.added i [] (omega (arith, c.loop-i-test.true, c.rank-rank.ensures.added)) c.rank-rank.ensures.basis.added in
+    let row =
+    AreRows-entry B.prime B.width B.added i [] (omega (arith, c.loop-i-test.true, c.rank-rank.ensures.added))
+    c.rank-rank.ensures.basis.added in
     ap (λ (r : PrimeRow). length r.entries) c.added.ensures ∙ row.count ∙ sym c.loop-i.invariant.width
 
 pub loop-i-preserved : goal.loop-i-preserved
@@ -26,7 +28,8 @@ loop-i-preserved c =
     let l : i < length B.added = omega (arith, c.loop-i-test.true, c.rank-rank.ensures.added) in
     elim c.match-insert.branch [
       | in-Added w ↦
-          copy-added B K i c.loop-i.invariant basis l N c.insert.ensures.basis c.insert.ensures.prime c.insert.ensures.width w.in-Added.ensures.spare
+          copy-added B K i c.loop-i.invariant basis l N c.insert.ensures.basis c.insert.ensures.prime c.insert.ensures.width
+          w.in-Added.ensures.spare
           (w.in-Added.ensures.added ∙ ap (λ (x : List ℕ). K.added ++ x ∷ []) here)
       | in-Dependent w ↦
           copy-left_out B K i c.loop-i.invariant basis l N w.in-Dependent.ensures.unchanged

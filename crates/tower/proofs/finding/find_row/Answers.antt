@@ -9,8 +9,10 @@ find_along-requires-clause-letters g c =
     let named = subst (IsNamedSource L) c.in-Fixed.is c.requires.named in
     let first = named.0 in
     let last = named.1 in
-    listed-letters (length L.names) c.args.cover.now.answer.names L.fixed c.fixed.result.now (c.in-Fixed.number - 1) c.index-fixed-number.result
-    (ap length (sym c.requires.names)) c.names-names.ensures.presentation.fixed_words c.fixed.ensures (omega (arith, ap length c.fixed.ensures))
+    listed-letters (length L.names) c.args.cover.now.answer.names L.fixed c.fixed.result.now
+    (c.in-Fixed.number - 1) c.index-fixed-number.result
+    (ap length (sym c.requires.names)) c.names-names.ensures.presentation.fixed_words c.fixed.ensures
+    (omega (arith, ap length c.fixed.ensures))
     c.index-fixed-number.is
 
 pub find_along-requires-in-Iterated-clause-letters : goal.find_along-requires-in-Iterated-clause-letters

@@ -6,7 +6,8 @@ use Rattle.tower.proofs.lifts.iterated_rows.Goals as goal
 pub iterated_row-requires-clause-letters : goal.iterated_row-requires-clause-letters
 iterated_row-requires-clause-letters g c =
     let L = c.args.pres.now in
-    listed-letters (length L.names) c.args.cover.now.answer.names L.iterated c.iterated-word-items.result.now c.loop-word.word-index c.word-item.result
+    listed-letters (length L.names) c.args.cover.now.answer.names L.iterated c.iterated-word-items.result.now c.loop-word.word-index
+    c.word-item.result
     (ap length (sym c.requires.names)) c.names-names.ensures.presentation.iterated_words c.iterated-word-items.ensures
     (omega (arith, c.loop-word-test.true)) c.word-item.is
 
@@ -15,7 +16,8 @@ loop-word-preserved g c =
     let L = c.args.pres.now in
     let n : ℕ = c.loop-word.word-index in
     let word : get_or L.iterated n [] ≡ c.word-item.result =
-    listed-word L.iterated c.iterated-word-items.result.now n c.word-item.result c.iterated-word-items.ensures (omega (arith, c.loop-word-test.true))
+    listed-word L.iterated c.iterated-word-items.result.now n c.word-item.result c.iterated-word-items.ensures
+    (omega (arith, c.loop-word-test.true))
     c.word-item.is in (
       c.iterated_row.ensures.scratch,
       given-more L c.args.cover.now n c.loop-word.rows.items c.push.new.self.items c.in_ok-iterated_row.field-0 c.word-item.result

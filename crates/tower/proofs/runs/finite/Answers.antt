@@ -16,7 +16,8 @@ loop-k-init g c = (
       c.names.ensures.limits.some_generator c.names.ensures.limits.generators c.names.ensures.presentation.distinct c.in_ok-answer.ensures,
   (λ steps h. ap length (c.requires.log steps h)),
   (λ steps. (λ h. h, λ h. h)),
-  (λ kept. holds-none g.L.Log.FULL c.args.pres.now g.C.Collect.meaning (prime_value c.args.prime) (g.L.Log.keeps c.args.log.now Whole) c.names.result.now
+  (λ kept. holds-none g.L.Log.FULL c.args.pres.now g.C.Collect.meaning (prime_value c.args.prime)
+      (g.L.Log.keeps c.args.log.now Whole) c.names.result.now
       c.in_ok-answer.answer kept c.names.ensures.names c.in_ok-answer.ensures),
 )
 
@@ -31,12 +32,20 @@ one_class-requires-clause-log g c =
 pub returns-in_err-answer-clause-refused : goal.returns-in_err-answer-clause-refused
 returns-in_err-answer-clause-refused g c kept =
     let p = err_from_is_err_and c.from_residual.result c.from_residual.ensures.1 in
-    rw (p.1, p.2) (holds-wanting_first g.L.Log.FULL c.args.pres.now g.C.Collect.meaning (prime_value c.args.prime) (g.L.Log.keeps c.args.log.now Whole) c.args.class kept c.requires.from_one)
+    rw (
+      p.1,
+      p.2,
+    ) (holds-wanting_first g.L.Log.FULL c.args.pres.now g.C.Collect.meaning (prime_value c.args.prime)
+    (g.L.Log.keeps c.args.log.now Whole) c.args.class kept c.requires.from_one)
 
 pub returns-in_err-next-clause-refused : goal.returns-in_err-next-clause-refused
 returns-in_err-next-clause-refused g c kept =
     let p = err_from_is_err_and c.from_residual-in_err-next.result c.from_residual-in_err-next.ensures.1 in
-    rw (p.1, p.2) (holds-wanting g.L.Log.FULL c.args.pres.now g.C.Collect.meaning (prime_value c.args.prime) (g.L.Log.keeps c.loop-k.log Whole) (g.L.Log.keeps c.one_class.new.log Whole)
+    rw (
+      p.1,
+      p.2,
+    ) (holds-wanting g.L.Log.FULL c.args.pres.now g.C.Collect.meaning (prime_value c.args.prime) (g.L.Log.keeps c.loop-k.log Whole)
+    (g.L.Log.keeps c.one_class.new.log Whole)
     c.loop-k.k c.args.class c.loop-k.answer (c.loop-k.invariant.3 kept) c.in_err-next.ensures.refused (omega (arith, c.loop-k-test.true)))
 
 pub returns-in_err-next-clause-other : goal.returns-in_err-next-clause-other
@@ -46,13 +55,17 @@ returns-in_err-next-clause-other g c =
 
 pub returns-in-Same-clause-quotient : goal.returns-in-Same-clause-quotient
 returns-in-Same-clause-quotient g c =
-    quotient-stopped (named_part c.args.pres.now c.args.relators.now) (prime_value c.args.prime) c.loop-k.k c.args.class c.loop-k.answer c.loop-k.invariant.0
-    (subst (λ (s : Step). IsStepFrom (named_part c.args.pres.now c.args.relators.now) (prime_value c.args.prime) c.loop-k.k c.loop-k.answer s) c.in-Same.is c.in_ok-next.ensures.step)
-    (rank-few c.loop-k.answer.presentation c.pcp.result.now c.pcp.ensures.presentation c.rank-rank.ensures.presentation) (omega (arith, c.loop-k-test.true))
+    quotient-stopped (named_part c.args.pres.now c.args.relators.now)
+    (prime_value c.args.prime) c.loop-k.k c.args.class c.loop-k.answer c.loop-k.invariant.0
+    (subst (λ (s : Step). IsStepFrom (named_part c.args.pres.now c.args.relators.now)
+    (prime_value c.args.prime) c.loop-k.k c.loop-k.answer s) c.in-Same.is c.in_ok-next.ensures.step)
+    (rank-few c.loop-k.answer.presentation c.pcp.result.now c.pcp.ensures.presentation c.rank-rank.ensures.presentation)
+    (omega (arith, c.loop-k-test.true))
 
 pub returns-in-Same-clause-held : goal.returns-in-Same-clause-held
 returns-in-Same-clause-held g c kept =
-    holds-stopped g.L.Log.FULL c.args.pres.now g.C.Collect.meaning (prime_value c.args.prime) (g.L.Log.keeps c.loop-k.log Whole) (g.L.Log.keeps c.one_class.new.log Whole)
+    holds-stopped g.L.Log.FULL c.args.pres.now g.C.Collect.meaning (prime_value c.args.prime) (g.L.Log.keeps c.loop-k.log Whole)
+    (g.L.Log.keeps c.one_class.new.log Whole)
     c.loop-k.k c.args.class c.loop-k.answer (c.loop-k.invariant.3 kept)
     (subst (IsLogged g.L.Log.FULL c.args.pres.now g.C.Collect.meaning c.loop-k.answer (g.L.Log.keeps c.loop-k.log Whole)
     (g.L.Log.keeps c.one_class.new.log Whole)) c.in-Same.is c.in_ok-next.ensures.logged) (omega (arith, c.loop-k-test.true))
@@ -65,14 +78,18 @@ returns-in-Same-clause-other g c =
 pub returns-in-TooLarge-clause-refusal : goal.returns-in-TooLarge-clause-refusal
 returns-in-TooLarge-clause-refusal g c = (
   refl,
-  too_large-at (named_part c.args.pres.now c.args.relators.now) (prime_value c.args.prime) c.loop-k.k c.args.class c.in-TooLarge.rank c.loop-k.answer c.loop-k.invariant.0
-      (rank-few c.loop-k.answer.presentation c.pcp.result.now c.pcp.ensures.presentation c.rank-rank.ensures.presentation) (omega (arith, c.loop-k-test.true))
-      (subst (λ (s : Step). IsStepFrom (named_part c.args.pres.now c.args.relators.now) (prime_value c.args.prime) c.loop-k.k c.loop-k.answer s) c.in-TooLarge.is c.in_ok-next.ensures.step),
+  too_large-at (named_part c.args.pres.now c.args.relators.now)
+      (prime_value c.args.prime) c.loop-k.k c.args.class c.in-TooLarge.rank c.loop-k.answer c.loop-k.invariant.0
+      (rank-few c.loop-k.answer.presentation c.pcp.result.now c.pcp.ensures.presentation c.rank-rank.ensures.presentation)
+      (omega (arith, c.loop-k-test.true))
+      (subst (λ (s : Step). IsStepFrom (named_part c.args.pres.now c.args.relators.now)
+      (prime_value c.args.prime) c.loop-k.k c.loop-k.answer s) c.in-TooLarge.is c.in_ok-next.ensures.step),
 )
 
 pub returns-in-TooLarge-clause-refused : goal.returns-in-TooLarge-clause-refused
 returns-in-TooLarge-clause-refused g c kept =
-    holds-too_large g.L.Log.FULL c.args.pres.now g.C.Collect.meaning (prime_value c.args.prime) (g.L.Log.keeps c.loop-k.log Whole) (g.L.Log.keeps c.one_class.new.log Whole)
+    holds-too_large g.L.Log.FULL c.args.pres.now g.C.Collect.meaning (prime_value c.args.prime) (g.L.Log.keeps c.loop-k.log Whole)
+    (g.L.Log.keeps c.one_class.new.log Whole)
     c.loop-k.k c.args.class c.in-TooLarge.rank Whole c.loop-k.answer (c.loop-k.invariant.3 kept)
     (rank-few c.loop-k.answer.presentation c.pcp.result.now c.pcp.ensures.presentation c.rank-rank.ensures.presentation)
     (subst (IsLogged g.L.Log.FULL c.args.pres.now g.C.Collect.meaning c.loop-k.answer (g.L.Log.keeps c.loop-k.log Whole)
@@ -85,8 +102,10 @@ returns-in-TooLarge-clause-other g c =
 
 pub loop-k-preserved : goal.loop-k-preserved
 loop-k-preserved g c = (
-  grown-next (named_part c.args.pres.now c.args.relators.now) (prime_value c.args.prime) c.loop-k.k c.loop-k.answer c.in-Next.next c.loop-k.invariant.0
-      (subst (λ (s : Step). IsStepFrom (named_part c.args.pres.now c.args.relators.now) (prime_value c.args.prime) c.loop-k.k c.loop-k.answer s) c.in-Next.is c.in_ok-next.ensures.step),
+  grown-next (named_part c.args.pres.now c.args.relators.now)
+      (prime_value c.args.prime) c.loop-k.k c.loop-k.answer c.in-Next.next c.loop-k.invariant.0
+      (subst (λ (s : Step). IsStepFrom (named_part c.args.pres.now c.args.relators.now)
+      (prime_value c.args.prime) c.loop-k.k c.loop-k.answer s) c.in-Next.is c.in_ok-next.ensures.step),
   one-more (g.L.Log.keeps c.loop-k.log Whole) (g.L.Log.keeps c.one_class.new.log Whole) c.in_ok-next.ensures.logged.held c.loop-k.k
       c.in_ok-next.ensures.logged.told c.loop-k.invariant.1,
   same-twice (g.L.Log.keeps c.args.log.now Iterated) (g.L.Log.keeps c.loop-k.log Iterated) (g.L.Log.keeps c.one_class.new.log Iterated)
@@ -99,8 +118,10 @@ loop-k-preserved g c = (
 
 pub returns-clause-quotient : goal.returns-clause-quotient
 returns-clause-quotient g c =
-    quotient-last (named_part c.args.pres.now c.args.relators.now) (prime_value c.args.prime) c.loop-k.k c.args.class c.loop-k.answer c.loop-k.invariant.0
-    (rank-few c.loop-k.answer.presentation c.pcp-2.result.now c.pcp-2.ensures.presentation c.rank-rank-2.ensures.presentation) (omega (arith, c.loop-k-test.false, c.loop-k.auto.k-end))
+    quotient-last (named_part c.args.pres.now c.args.relators.now)
+    (prime_value c.args.prime) c.loop-k.k c.args.class c.loop-k.answer c.loop-k.invariant.0
+    (rank-few c.loop-k.answer.presentation c.pcp-2.result.now c.pcp-2.ensures.presentation c.rank-rank-2.ensures.presentation)
+    (omega (arith, c.loop-k-test.false, c.loop-k.auto.k-end))
 
 pub returns-clause-other : goal.returns-clause-other
 returns-clause-other g c =

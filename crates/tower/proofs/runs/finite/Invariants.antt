@@ -13,4 +13,5 @@ invariant-loop-k g l =
     IsGrown (named_part l.fn.pres l.fn.relators) (prime_value l.fn.prime) l.k l.answer
     × ((steps : List HeldStep) → g.L.Log.keeps l.log Whole steps → length steps ≡ l.k)
     × KeepsTheSame (g.L.Log.keeps l.fn.log Iterated) (g.L.Log.keeps l.log Iterated)
-    × (g.L.Log.keeps l.fn.log Whole [] → HoldsSteps g.L.Log.FULL l.fn.pres g.C.Collect.meaning (prime_value l.fn.prime) l.k (g.L.Log.keeps l.log Whole) l.answer)
+    × (g.L.Log.keeps l.fn.log Whole []
+    → HoldsSteps g.L.Log.FULL l.fn.pres g.C.Collect.meaning (prime_value l.fn.prime) l.k (g.L.Log.keeps l.log Whole) l.answer)

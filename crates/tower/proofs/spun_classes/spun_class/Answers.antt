@@ -35,7 +35,8 @@ eliminate-requires-clause-kept g c =
     let p : ℕ = prime_value c.args.prime in
     kept-defining C B.rows
     (kept_tails_of_stages_may_define (part L iterated_part) p c.args.k C (g.C.Collect.meaning (rowed_presentation (cover_presentation C))) B
-    (spun-step_of g.C.Collect.meaning g.met.C.Collect.reaches g.L.Log.FULL L c.names-names.ensures.presentation p c.args.k c.args.recorded.now.items
+    (spun-step_of g.C.Collect.meaning g.met.C.Collect.reaches g.L.Log.FULL L c.names-names.ensures.presentation p c.args.k
+    c.args.recorded.now.items
     c.in_ok-rows.relators.items c.args.answer.now C c.in_ok-cover.ensures c.pcp.ensures.cover c.requires.grown c.in_ok-rows.ensures.iterated
     c.in_ok-rows.rows c.in_ok-rows.ensures.over c.in_ok-rows.ensures.taken c.in_ok-rows.ensures.suffice B
     (ap (λ (R : StepRows). R.basis) c.rows.view_is)))
@@ -43,7 +44,8 @@ eliminate-requires-clause-kept g c =
 pub returns-clause-iterated : goal.returns-clause-iterated
 returns-clause-iterated g c =
     subst (All (IsNamed (part c.args.pres.now iterated_part))) (sym c.in_ok-append.ensures.items)
-    (All-append (IsNamed (part c.args.pres.now iterated_part)) c.args.recorded.now.items c.in_ok-rows.relators.items c.requires.grown.iterated
+    (All-append (IsNamed (part c.args.pres.now iterated_part)) c.args.recorded.now.items c.in_ok-rows.relators.items
+    c.requires.grown.iterated
     c.in_ok-rows.ensures.iterated)
 
 pub returns-clause-step : goal.returns-clause-step
@@ -55,7 +57,8 @@ returns-clause-step g c =
     subst (λ (D : Answer). D.presentation.rank ≤ max_rank) (step_cover-covers g.L.Log.FULL C A c.in_ok-cover.ensures)
     (rank-few C.answer.presentation c.pcp.result.now (ap (λ (T : TailedPresentation). T.presentation) c.pcp.ensures.presentation)
     c.rank-rank.ensures.presentation) in
-    (spun-answers g.C.Collect.meaning g.met.C.Collect.reaches g.L.Log.FULL L c.names-names.ensures.presentation (prime_value c.args.prime) c.args.k
+    (spun-answers g.C.Collect.meaning g.met.C.Collect.reaches g.L.Log.FULL L c.names-names.ensures.presentation
+    (prime_value c.args.prime) c.args.k
     c.args.recorded.now.items c.in_ok-rows.relators.items A C c.in_ok-cover.ensures c.pcp.ensures.cover c.requires.grown
     c.in_ok-rows.ensures.iterated c.in_ok-rows.rows c.in_ok-rows.ensures.over c.in_ok-rows.ensures.taken c.in_ok-rows.ensures.suffice
     c.rows.inside.basis (ap (λ (R : StepRows). R.basis) c.rows.view_is) c.requires.class few c.append.new.self.items
@@ -70,7 +73,8 @@ returns-clause-recorded g c =
     subst (λ (D : Answer). D.presentation.rank ≤ max_rank) (step_cover-covers g.L.Log.FULL C A c.in_ok-cover.ensures)
     (rank-few C.answer.presentation c.pcp.result.now (ap (λ (T : TailedPresentation). T.presentation) c.pcp.ensures.presentation)
     c.rank-rank.ensures.presentation) in
-    (spun-answers g.C.Collect.meaning g.met.C.Collect.reaches g.L.Log.FULL L c.names-names.ensures.presentation (prime_value c.args.prime) c.args.k
+    (spun-answers g.C.Collect.meaning g.met.C.Collect.reaches g.L.Log.FULL L c.names-names.ensures.presentation
+    (prime_value c.args.prime) c.args.k
     c.args.recorded.now.items c.in_ok-rows.relators.items A C c.in_ok-cover.ensures c.pcp.ensures.cover c.requires.grown
     c.in_ok-rows.ensures.iterated c.in_ok-rows.rows c.in_ok-rows.ensures.over c.in_ok-rows.ensures.taken c.in_ok-rows.ensures.suffice
     c.rows.inside.basis (ap (λ (R : StepRows). R.basis) c.rows.view_is) c.requires.class few c.append.new.self.items
@@ -79,7 +83,8 @@ returns-clause-recorded g c =
 pub returns-clause-logged : goal.returns-clause-logged
 returns-clause-logged g c =
     logged-taken g.L.Log.FULL (part c.args.pres.now iterated_part) g.C.Collect.meaning c.args.answer.now c.in_ok-cover.cover
-    c.in_ok-cover.ensures c.in_ok-rows.relators.items c.in_ok-rows.rows c.in_ok-rows.ensures.over c.in_ok-rows.ensures.taken_in_part c.as_slice.result.now
+    c.in_ok-cover.ensures c.in_ok-rows.relators.items c.in_ok-rows.rows c.in_ok-rows.ensures.over c.in_ok-rows.ensures.taken_in_part
+    c.as_slice.result.now
     c.rows.inside.basis (c.as_slice.ensures.value ∙ ap (λ (R : StepRows). R.noted) c.rows.view_is)
     (ap (λ (R : StepRows). R.basis) c.rows.view_is) (g.L.Log.keeps c.args.log.now c.args.run) (g.L.Log.keeps c.step.new.self c.args.run)
     c.in_ok-step-2.ensures.kept c.in_ok-step.step c.in_ok-step.ensures

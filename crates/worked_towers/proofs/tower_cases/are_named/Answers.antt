@@ -5,5 +5,6 @@ use Rattle.worked_towers.proofs.tower_cases.are_named.Goals as goal
 
 pub loop-relator-preserved : goal.loop-relator-preserved
 loop-relator-preserved c =
-    All-more (IsNamed c.args.pres.now) c.args.relators.now c.loop-relator.relator-index c.relator-item.result c.loop-relator-test.true c.loop-relator.invariant
+    All-more (IsNamed c.args.pres.now) c.args.relators.now c.loop-relator.relator-index c.relator-item.result c.loop-relator-test.true
+    c.loop-relator.invariant
     (subst (IsNamed c.args.pres.now) c.relator-item.is (c.is_named.ensures c.if-not-is_named.false))

@@ -10,4 +10,5 @@ pub returns-clause-combinations : goal.returns-clause-combinations
 returns-clause-combinations c =
     let k = c.self.inside in
     subst AreCombinations c.self.view_is
-    (spread_words-are (prime_value k.prime) k.kept.items (words_of k.words.items) (offered-two (prime_value k.prime) (prime_value-offered k.prime)) c.self.invariant)
+    (spread_words-are (prime_value k.prime) k.kept.items (words_of k.words.items)
+    (offered-two (prime_value k.prime) (prime_value-offered k.prime)) c.self.invariant)

@@ -13,7 +13,8 @@ returns-clause-word c =
     let words = k.words.items in
     let q = length k.kept.items in
     let low : 1 ≤ c.args.tail = c.requires.first in
-    let high : c.args.tail ≤ length (map (spread (length k.kept.items) 0) (words_of k.words.items)) = rw (← c.self.view_is) at c.requires.last in
+    let high : c.args.tail ≤ length (map (spread (length k.kept.items) 0) (words_of k.words.items)) =
+    rw (← c.self.view_is) at c.requires.last in
     let spread_count = length-map (words_of k.words.items) (spread (length k.kept.items) 0) in
     let word_count : length (words_of words) ≡ length words = length-words_of words in
     let inside : c.args.tail - 1 < length words = omega arith in
@@ -28,7 +29,8 @@ returns-clause-normal c =
     let words = k.words.items in
     let q = length k.kept.items in
     let low : 1 ≤ c.args.tail = c.requires.first in
-    let high : c.args.tail ≤ length (map (spread (length k.kept.items) 0) (words_of k.words.items)) = rw (← c.self.view_is) at c.requires.last in
+    let high : c.args.tail ≤ length (map (spread (length k.kept.items) 0) (words_of k.words.items)) =
+    rw (← c.self.view_is) at c.requires.last in
     let spread_count = length-map (words_of k.words.items) (spread (length k.kept.items) 0) in
     let word_count : length (words_of words) ≡ length words = length-words_of words in
     let inside : c.args.tail - 1 < length words = omega arith in

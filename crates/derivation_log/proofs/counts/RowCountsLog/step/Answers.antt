@@ -9,7 +9,9 @@ pub returns-in_ok-push-in-Iterated-clause-kept : goal.returns-in_ok-push-in-Iter
 returns-in_ok-push-in-Iterated-clause-kept c =
     let step = told_step c.args.sources.now c.args._basis.now in
     let grown : c.push.new.self.items ≡ c.args.self.now.iterated ++ length c.args.sources.now ∷ [] = search rules in
-    subst (λ (r : Run). KeepsOneMore (HasCounts c.args.self.now r) (HasCounts (record { iterated = c.push.new.self.items; whole = c.self.inside.whole.items }) r) (told_step c.args.sources.now c.args._basis.now))
+    subst (λ (r : Run). KeepsOneMore (HasCounts c.args.self.now r)
+    (HasCounts (record { iterated = c.push.new.self.items; whole = c.self.inside.whole.items }) r)
+    (told_step c.args.sources.now c.args._basis.now))
     (sym c.in-Iterated.is)
     (keeps-one_more c.args.self.now.iterated c.push.new.self.items step grown)
 
@@ -17,6 +19,8 @@ pub returns-in_ok-push-in-Whole-clause-kept : goal.returns-in_ok-push-in-Whole-c
 returns-in_ok-push-in-Whole-clause-kept c =
     let step = told_step c.args.sources.now c.args._basis.now in
     let grown : c.push-in-Whole.new.self.items ≡ c.args.self.now.whole ++ length c.args.sources.now ∷ [] = search rules in
-    subst (λ (r : Run). KeepsOneMore (HasCounts c.args.self.now r) (HasCounts (record { iterated = c.self.inside.iterated.items; whole = c.push-in-Whole.new.self.items }) r) (told_step c.args.sources.now c.args._basis.now))
+    subst (λ (r : Run). KeepsOneMore (HasCounts c.args.self.now r)
+    (HasCounts (record { iterated = c.self.inside.iterated.items; whole = c.push-in-Whole.new.self.items }) r)
+    (told_step c.args.sources.now c.args._basis.now))
     (sym c.in-Whole.is)
     (keeps-one_more c.args.self.now.whole c.push-in-Whole.new.self.items step grown)

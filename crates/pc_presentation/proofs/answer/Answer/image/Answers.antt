@@ -11,7 +11,8 @@ returns c =
     let images = c.self.inside.images.items in
     let low : 1 ≤ c.args.i = c.requires.from_one in
     let high : c.args.i ≤ length c.self.inside.names.items = rw (← c.self.view_is) at c.requires.in_range in
-    let count : length (map (spread T.presentation.rank 0) (words_of images)) ≡ length c.self.inside.names.items = c.self.invariant.answer.image_count in
+    let count : length (map (spread T.presentation.rank 0) (words_of images)) ≡ length c.self.inside.names.items =
+    c.self.invariant.answer.image_count in
     let spread_count = length-map (words_of images) (spread T.presentation.rank 0) in
     let word_count : length (words_of images) ≡ length images = length-words_of images in
     let inside : c.args.i - 1 < length images = omega arith in

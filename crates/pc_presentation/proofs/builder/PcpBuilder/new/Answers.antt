@@ -11,7 +11,9 @@ pub invariant_of-result : goal.invariant_of-result
 invariant_of-result c =
     let p = prime_value c.args.prime in
     let flags = c.in_ok-vec.ensures.items_if_clones_equal (λ y h. h) in
-    let empty = draft-empty p c.args.tails c.relation_count.result c.args.weights.now c.in_ok-plain.field-0 c.in_ok-vec.field-0.items c.in_ok-plain.ensures flags in (
+    let empty =
+    draft-empty p c.args.tails c.relation_count.result c.args.weights.now c.in_ok-plain.field-0 c.in_ok-vec.field-0.items
+    c.in_ok-plain.ensures flags in (
       ap (length {A = Bool}) flags ∙ length-replicate c.relation_count.result false ∙ c.relation_count.ensures.count
           ∙ ap (λ (T : TailedPresentation). relation_count T.presentation.rank) (sym c.in_ok-plain.ensures),
       subst OthersAreBare (sym empty) (OthersAreBare-empty p c.args.tails c.args.weights.now),

@@ -28,7 +28,8 @@ invariant_of-self-2 c =
     c.self.invariant.0 a.in_range.left_side number c.in_ok-put.ensures.ok in (
       length-set flags c.number-number.result true ∙ c.self.invariant.0
           ∙ ap (λ (U : TailedPresentation). relation_count U.presentation.rank) (sym c.in_ok-put.ensures.ok),
-      subst OthersAreBare (sym same) (OthersAreBare-extended (draft T flags) c.args.r c.args.word.now c.args.tail c.rank.ensures.presentation
+      subst OthersAreBare (sym same)
+          (OthersAreBare-extended (draft T flags) c.args.r c.args.word.now c.args.tail c.rank.ensures.presentation
           (per_relation-shape n (λ r. get_or flags (relation_number n r) false)) a.in_range.left_side c.self.invariant.1),
     )
 

@@ -6,7 +6,8 @@ use Rattle.pc_presentation.proofs.elem.Elem.add_tail.Goals as goal
 
 pub returns : goal.returns
 returns c =
-    add_tail-is c.self.inside.exponents.items c.self.inside.tails c.set.new.self c.args.self.now c.args.column c.next_residue-next.result c.self.view_is
+    add_tail-is c.self.inside.exponents.items c.self.inside.tails c.set.new.self c.args.self.now c.args.column c.next_residue-next.result
+    c.self.view_is
     c.set.ensures
     (c.next_residue-next.ensures ∙ ap (λ (n : ℕ). (n + 1) % prime_value c.prime.result) c.get.ensures.entry
     ∙ ap (λ (p : ℕ). (at_column c.self.inside.tails.entries c.args.column + 1) % p) c.prime.ensures.prime)

@@ -18,4 +18,5 @@ returns c =
     let read : c.index.result.now ≡ get_or a.commuting.items (c.args.i - 1) 0 =
     get_or_read a.commuting.items (c.args.i - 1) c.index.result.now (omega arith) c.index.ensures 0 in
     rw (← c.self.view_is)
-    (subst (λ (x : ℕ). IsFirstCommuting (rowed_presentation T) (c.args.i - 1) (x - 1)) (sym read) (c.self.invariant.2.first (c.args.i - 1) place))
+    (subst (λ (x : ℕ). IsFirstCommuting (rowed_presentation T) (c.args.i - 1) (x - 1)) (sym read)
+    (c.self.invariant.2.first (c.args.i - 1) place))

@@ -13,9 +13,12 @@ invariant_of-result c =
     let count : c.relation_count.result ≡ relation_count (length c.in_ok-from_slice.field-0.items) =
     c.relation_count.ensures.count ∙ ap relation_count (sym long) in (
       omega arith,
-      AreEntries-plain (prime_value c.args.prime) c.args.tails c.relation_count.result (length c.in_ok-from_slice.field-0.items) c.in_ok-new.field-0 count c.in_ok-new.ensures,
-      AreCommutingNumbers-blank_entries (prime_value c.args.prime) c.args.tails c.relation_count.result c.args.weights.now c.in_ok-from_slice.field-0.items c.in_ok-new.field-0
-          c.in_ok-next_numbers.field-0.items (prime_value-offered c.args.prime) c.requires same c.relation_count.ensures.count c.in_ok-new.ensures
+      AreEntries-plain (prime_value c.args.prime) c.args.tails c.relation_count.result
+          (length c.in_ok-from_slice.field-0.items) c.in_ok-new.field-0 count c.in_ok-new.ensures,
+      AreCommutingNumbers-blank_entries (prime_value c.args.prime) c.args.tails c.relation_count.result c.args.weights.now
+          c.in_ok-from_slice.field-0.items c.in_ok-new.field-0
+          c.in_ok-next_numbers.field-0.items (prime_value-offered c.args.prime) c.requires same c.relation_count.ensures.count
+          c.in_ok-new.ensures
           c.in_ok-next_numbers.ensures,
     )
 

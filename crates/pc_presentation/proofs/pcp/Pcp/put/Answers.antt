@@ -16,7 +16,8 @@ use Rattle.pc_presentation.proofs.presentations.CommutingNumberLaws.{AreCommutin
 use Rattle.pc_presentation.proofs.pcp.Pcp.put.Goals as goal
 
 -- the new entries
-made : (n rank number : ℕ) (entries new : List Entry) (r : Relation) (word : List Syllable) (tail : Option ℕ) → rank ≡ n → number ≡ relation_number rank r
+made : (n rank number : ℕ) (entries new : List Entry) (r : Relation) (word : List Syllable) (tail : Option ℕ) → rank ≡ n
+    → number ≡ relation_number rank r
     → new ≡ set entries number (record { word = word; tail = tail }) → new ≡ put_entries n entries r word tail
 made n rank number entries new r word tail e f q =
     q ∙ ap (λ (k : ℕ). set entries k (put_entry n entries r word tail)) (f ∙ ap (λ (m : ℕ). relation_number m r) e)
@@ -30,19 +31,26 @@ invariant_of-self-2 c =
     let r : IsRelation n c.args.r = rw (← c.self.view_is) at c.requires.relation in
     let s : AreSyllables p n (side_start c.args.r) w = rw (← c.self.view_is) at c.requires.word in
     let t : IsTail a.tails c.args.tail = rw (← c.self.view_is) at c.requires.tail in
-    let bare : IsBareRelation (tailed_presentation p a.weights.items a.tails a.relations) c.args.r = rw (← c.self.view_is) at c.requires.bare in
+    let bare : IsBareRelation (tailed_presentation p a.weights.items a.tails a.relations) c.args.r =
+    rw (← c.self.view_is) at c.requires.bare in
     let rank : c.len.result ≡ length a.weights.items = omega arith in
-    let new = made n c.len.result c.number-number.result a.relations c.put.new.self c.args.r w c.args.tail rank c.number-number.ensures.number c.in_ok-put.ensures.ok in
-    let numbers = AreCommutingNumbers-put_entries p a.tails a.weights.items a.relations c.args.r w c.args.tail a.commuting.items (prime_value-offered a.prime) c.self.invariant.0
+    let new =
+    made n c.len.result c.number-number.result a.relations c.put.new.self c.args.r w c.args.tail rank c.number-number.ensures.number
+    c.in_ok-put.ensures.ok in
+    let numbers =
+    AreCommutingNumbers-put_entries p a.tails a.weights.items a.relations c.args.r w c.args.tail a.commuting.items
+    (prime_value-offered a.prime) c.self.invariant.0
     c.self.invariant.1 r s t bare c.self.invariant.2 in
     let written : c.note_relation.new.numbers ≡ numbers_with c.args.r w c.args.tail a.commuting.items =
     c.note_relation.ensures ∙ ap (numbers_with c.args.r w c.args.tail) c.as_mut_slice.ensures.value in
     let count : length a.commuting.items ≡ n = c.self.invariant.2.count in
     let same_count : length (numbers_with c.args.r w c.args.tail a.commuting.items) ≡ n = numbers.count in
-    let long : length c.note_relation.new.numbers ≡ a.commuting.len = ap (length {A = ℕ}) written ∙ same_count ∙ sym count ∙ sym a.commuting.ok.0 in (
+    let long : length c.note_relation.new.numbers ≡ a.commuting.len =
+    ap (length {A = ℕ}) written ∙ same_count ∙ sym count ∙ sym a.commuting.ok.0 in (
       c.self.invariant.0,
       subst (AreEntries p n a.tails) (sym new) (put_entries-are n a.relations c.args.r w c.args.tail p a.tails c.self.invariant.1 r s t),
-      subst (λ (es : List Entry). AreCommutingNumbers (tailed_presentation p a.weights.items a.tails es) (with_items a.commuting c.note_relation.new.numbers).items)
+      subst (λ (es : List Entry).
+          AreCommutingNumbers (tailed_presentation p a.weights.items a.tails es) (with_items a.commuting c.note_relation.new.numbers).items)
           (sym new)
           (subst (AreCommutingNumbers (tailed_presentation p a.weights.items a.tails (put_entries n a.relations c.args.r w c.args.tail)))
           (sym (with_items_is a.commuting c.note_relation.new.numbers long ∙ written)) numbers),
@@ -55,7 +63,9 @@ returns-clause-ok c =
     let n = length a.weights.items in
     let r : IsRelation n c.args.r = rw (← c.self.view_is) at c.requires.relation in
     let rank : c.len.result ≡ length a.weights.items = omega arith in
-    let new = made n c.len.result c.number-number.result a.relations c.put.new.self c.args.r c.args.word.now c.args.tail rank c.number-number.ensures.number
+    let new =
+    made n c.len.result c.number-number.result a.relations c.put.new.self c.args.r c.args.word.now c.args.tail rank
+    c.number-number.ensures.number
     c.in_ok-put.ensures.ok in
     rw (← c.self.view_is)
     (ap (tailed_presentation p a.weights.items a.tails) new

@@ -13,4 +13,5 @@ returns c =
     c.number.ensures.number ∙ ap (λ (n : ℕ). relation_number n c.args.r) rank in
     rw (← c.self.view_is)
     (c.tail.ensures ∙ ap (λ (k : ℕ). (get_or c.self.inside.relations k blank).tail) number
-    ∙ sym (tail_of-tailed (prime_value c.self.inside.prime) c.self.inside.tails c.self.inside.weights.items c.self.inside.relations c.args.r r))
+    ∙ sym (tail_of-tailed (prime_value c.self.inside.prime) c.self.inside.tails c.self.inside.weights.items c.self.inside.relations c.args.r
+    r))

@@ -13,4 +13,5 @@ returns c =
     c.number.ensures.number ∙ ap (λ (n : ℕ). relation_number n c.args.r) rank in
     rw (← c.self.view_is)
     (c.word.ensures ∙ ap (λ (k : ℕ). (get_or c.self.inside.relations k blank).word) number
-    ∙ sym (syllables_of-right_side (prime_value c.self.inside.prime) c.self.inside.tails c.self.inside.weights.items c.self.inside.relations c.self.invariant.1 c.args.r r))
+    ∙ sym (syllables_of-right_side (prime_value c.self.inside.prime) c.self.inside.tails c.self.inside.weights.items c.self.inside.relations
+    c.self.invariant.1 c.args.r r))

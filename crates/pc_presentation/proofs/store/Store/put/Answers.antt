@@ -5,7 +5,8 @@ use Rattle.pc_presentation.proofs.store.Store.put.Goals as goal
 
 pub returns-clause-ok : goal.returns-clause-ok
 returns-clause-ok c =
-    let longer : c.extend_from_slice.new.self.items ≡ c.self.inside.syllables.items ++ c.args.word.now = c.in_ok-extend_from_slice.ensures.items in
+    let longer : c.extend_from_slice.new.self.items ≡ c.self.inside.syllables.items ++ c.args.word.now =
+    c.in_ok-extend_from_slice.ensures.items in
     let long = ap (length {A = Syllable}) longer in
     rw (← c.self.view_is, longer)
     (entries_of-put c.self.inside.syllables.items c.args.word.now c.self.inside.places.items c.args.number

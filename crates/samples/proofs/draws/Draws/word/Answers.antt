@@ -14,7 +14,8 @@ loop-preserved c k left =
     let items : c.push.new.self.items ≡ c.loop.letters.items ++ c.letter.result ∷ [] =
     c.in_ok-push.ensures.items ∙ ap (λ (x : ℤ). c.loop.letters.items ++ x ∷ []) (to_z-of_z w32 c.letter.result fits) in (
       subst (λ (ks : List ℤ). ks ++ drawn_word k c.letter.new.self ≡ drawn_word 200 c.args.self.now) (sym items)
-          (word_more c.loop.letters.items (drawn_word 200 c.args.self.now) k c.loop.self c.letter.new.self c.letter.result c.letter.ensures.number
+          (word_more c.loop.letters.items (drawn_word 200 c.args.self.now) k c.loop.self c.letter.new.self c.letter.result
+          c.letter.ensures.number
           c.letter.ensures.letter before.0),
       ap (λ (s : ℕ). number_after k s) c.letter.ensures.number ∙ sym (number_after-suc k c.loop.self) ∙ before.1,
     )
@@ -22,7 +23,8 @@ loop-preserved c k left =
 pub word_of-requires-clause-letters : goal.word_of-requires-clause-letters
 word_of-requires-clause-letters c =
     let whole = word_whole c.loop.letters.items c.loop.self 200 c.args.self.now (c.loop.invariant 0 (omega arith)).0 in
-    rw (c.deref.ensures.value, whole) (HasLetters-weaken 2 2147483647 (drawn_word 200 c.args.self.now) (omega arith) (HasLetters-drawn_word 200 c.args.self.now))
+    rw (c.deref.ensures.value, whole)
+    (HasLetters-weaken 2 2147483647 (drawn_word 200 c.args.self.now) (omega arith) (HasLetters-drawn_word 200 c.args.self.now))
 
 pub word_of-requires-clause-few : goal.word_of-requires-clause-few
 word_of-requires-clause-few c =

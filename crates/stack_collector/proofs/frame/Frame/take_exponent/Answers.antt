@@ -6,5 +6,6 @@ pub returns-clause-on : goal.returns-clause-on
 returns-clause-on c =
     let few : get_or c.args.self.now.later c.next_place-place.result 0 ≤ 255 = search rules in
     exponent-taken c.args.pcp.now c.requires.presentation c.args.self.now c.requires.frame c.next_place-place.result
-    (get_or c.args.self.now.later c.next_place-place.result 0) c.requires.none_before c.next_place-place.ensures.from c.next_place-place.ensures.before_end
+    (get_or c.args.self.now.later c.next_place-place.result 0) c.requires.none_before c.next_place-place.ensures.from
+    c.next_place-place.ensures.before_end
     c.next_place-place.ensures.zeros refl few

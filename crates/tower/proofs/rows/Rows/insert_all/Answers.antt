@@ -27,7 +27,8 @@ loop-test-preserved g c =
       λ L.
           subst (λ (ss : List RowSource). HaveTakenMore L c.args.cover.now push ss c.args.self.now c.insert_overlap.new.self)
           (sym (map-append Test c.loop-test.yielded (c.in-Some.test ∷ [])))
-          (taken-append c.args.cover.now L push c.args.self.now c.loop-test.self c.insert_overlap.new.self (map Test c.loop-test.yielded) (Test c.in-Some.test ∷ [])
+          (taken-append c.args.cover.now L push c.args.self.now c.loop-test.self c.insert_overlap.new.self (map Test c.loop-test.yielded)
+          (Test c.in-Some.test ∷ [])
           (c.loop-test.invariant.5 L) (c.insert_overlap.ensures.taken L)),
     )
 
@@ -35,5 +36,7 @@ pub returns-clause-taken : goal.returns-clause-taken
 returns-clause-taken g c = λ L.
     let push = g.C.Collect.meaning (rowed_presentation (cover_presentation c.args.cover.now)) in
     let all : c.loop-test.yielded ≡ all_overlaps c.args.cover.now.answer.presentation.rank =
-    sym (append-nil c.loop-test.yielded) ∙ ap (λ (l : List Overlap). c.loop-test.yielded ++ l) (sym c.in-None.ensures.steps.0) ∙ c.loop-test.invariant.3 in
-    subst (λ (os : List Overlap). HaveTakenMore L c.args.cover.now push (map Test os) c.args.self.now c.loop-test.self) all (c.loop-test.invariant.5 L)
+    sym (append-nil c.loop-test.yielded)
+    ∙ ap (λ (l : List Overlap). c.loop-test.yielded ++ l) (sym c.in-None.ensures.steps.0) ∙ c.loop-test.invariant.3 in
+    subst (λ (os : List Overlap). HaveTakenMore L c.args.cover.now push (map Test os) c.args.self.now c.loop-test.self) all
+    (c.loop-test.invariant.5 L)

@@ -16,4 +16,6 @@ invariant-loop-test g l =
     × IsScratch (cover_presentation l.fn.cover) l.s
     × (l.yielded ++ l.test-iterator ≡ all_overlaps l.fn.cover.answer.presentation.rank)
     × AreOver l.fn.cover l.self
-    × ((L : LPresentation) → HaveTakenMore L l.fn.cover (g.C.Collect.meaning (rowed_presentation (cover_presentation l.fn.cover))) (map Test l.yielded) l.fn.self l.self)
+    × ((L : LPresentation)
+    → HaveTakenMore L l.fn.cover (g.C.Collect.meaning (rowed_presentation (cover_presentation l.fn.cover)))
+    (map Test l.yielded) l.fn.self l.self)

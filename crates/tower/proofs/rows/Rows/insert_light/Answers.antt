@@ -23,7 +23,8 @@ loop-overlap-init g c = (
 
 pub insert_overlap-requires-clause-overlap : goal.insert_overlap-requires-clause-overlap
 insert_overlap-requires-clause-overlap g c =
-    next-member (AreOverlapNumbers c.args.cover.now.answer.presentation.rank) (light_overlaps c.args.cover.now.answer) c.loop-overlap.yielded
+    next-member (AreOverlapNumbers c.args.cover.now.answer.presentation.rank)
+    (light_overlaps c.args.cover.now.answer) c.loop-overlap.yielded
     c.loop-overlap.overlap-iterator.rest.items c.next.new.self.rest.items c.in-Some.overlap
     (light_overlaps-numbers c.args.cover.now.answer c.pcp-pcp.ensures.cover.answer) c.loop-overlap.invariant.1 c.in-Some.ensures.steps.0
 

@@ -14,14 +14,16 @@ insert-requires-clause-spare g c =
 
 pub returns-clause-over : goal.returns-clause-over
 returns-clause-over g c =
-    over-inserted c.args.cover.now c.args.self.now _ c.insert.new.self (Test c.args.test) c.requires.over (search rules) (search rules) (search rules)
+    over-inserted c.args.cover.now c.args.self.now _ c.insert.new.self (Test c.args.test) c.requires.over (search rules) (search rules)
+    (search rules)
     c.row-agrees.ensures.prime c.row-agrees.ensures.width c.insert.ensures
 
 pub returns-clause-taken : goal.returns-clause-taken
 returns-clause-taken g c = λ L.
     let push = g.C.Collect.meaning (rowed_presentation (cover_presentation c.args.cover.now)) in
     let found : IsTrue c.row-agrees.result = c.row-agrees.ensures.consistent c.requires.consistent in
-    taken-inserted c.args.cover.now c.args.self.now _ c.insert.new.self (Test c.args.test) c.requires.over (search rules) (search rules) (search rules)
+    taken-inserted c.args.cover.now c.args.self.now _ c.insert.new.self (Test c.args.test) c.requires.over (search rules) (search rules)
+    (search rules)
     c.row-agrees.ensures.prime c.row-agrees.ensures.width c.insert.ensures L push
     (record {
       numbers = c.requires.overlap;

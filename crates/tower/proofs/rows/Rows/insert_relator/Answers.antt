@@ -14,7 +14,8 @@ pub returns-clause-over : goal.returns-clause-over
 returns-clause-over g c =
     let row_prime : c.self.inside.row.prime ≡ c.args.cover.now.answer.presentation.prime = search rules in
     let row_width : length c.self.inside.row.entries ≡ length c.args.cover.now.sources = search rules in
-    over-inserted c.args.cover.now c.args.self.now _ c.insert.new.self c.args.source c.requires.over (search rules) (search rules) (search rules)
+    over-inserted c.args.cover.now c.args.self.now _ c.insert.new.self c.args.source c.requires.over (search rules) (search rules)
+    (search rules)
     (c.find_row.ensures.prime ∙ row_prime) (c.find_row.ensures.width ∙ row_width) c.insert.ensures
 
 pub returns-clause-taken : goal.returns-clause-taken
@@ -22,5 +23,7 @@ returns-clause-taken g c =
     let push = g.C.Collect.meaning (rowed_presentation (cover_presentation c.args.cover.now)) in
     let row_prime : c.self.inside.row.prime ≡ c.args.cover.now.answer.presentation.prime = search rules in
     let row_width : length c.self.inside.row.entries ≡ length c.args.cover.now.sources = search rules in
-    taken-inserted c.args.cover.now c.args.self.now _ c.insert.new.self c.args.source c.requires.over (search rules) (search rules) (search rules)
-    (c.find_row.ensures.prime ∙ row_prime) (c.find_row.ensures.width ∙ row_width) c.insert.ensures c.args.pres.now push c.find_row.ensures.row
+    taken-inserted c.args.cover.now c.args.self.now _ c.insert.new.self c.args.source c.requires.over (search rules) (search rules)
+    (search rules)
+    (c.find_row.ensures.prime ∙ row_prime) (c.find_row.ensures.width ∙ row_width) c.insert.ensures c.args.pres.now push
+    c.find_row.ensures.row

@@ -14,17 +14,20 @@ loop-source-init g c = (
   c.requires.work,
   c.into_iter-source-iterator.ensures.into_iter_gives.0,
   c.requires.over,
-  taken-nothing c.args.cover.now c.args.pres.now (g.C.Collect.meaning (rowed_presentation (cover_presentation c.args.cover.now))) c.args.self.now,
+  taken-nothing c.args.cover.now c.args.pres.now (g.C.Collect.meaning (rowed_presentation (cover_presentation c.args.cover.now)))
+      c.args.self.now,
 )
 
 pub insert_relator-requires-clause-named : goal.insert_relator-requires-clause-named
 insert_relator-requires-clause-named g c =
-    next-member (IsNamedSource c.args.pres.now) c.args.sources.items c.loop-source.yielded c.loop-source.source-iterator.rest.items c.next.new.self.rest.items
+    next-member (IsNamedSource c.args.pres.now) c.args.sources.items c.loop-source.yielded c.loop-source.source-iterator.rest.items
+    c.next.new.self.rest.items
     c.in-Some.source c.requires.named c.loop-source.invariant.2 c.in-Some.ensures.steps.0
 
 pub insert_relator-requires-clause-killed : goal.insert_relator-requires-clause-killed
 insert_relator-requires-clause-killed g c =
-    next-member (DiesIn c.args.pres.now c.args.cover.now.answer) c.args.sources.items c.loop-source.yielded c.loop-source.source-iterator.rest.items
+    next-member (DiesIn c.args.pres.now c.args.cover.now.answer) c.args.sources.items c.loop-source.yielded
+    c.loop-source.source-iterator.rest.items
     c.next.new.self.rest.items c.in-Some.source c.requires.killed c.loop-source.invariant.2 c.in-Some.ensures.steps.0
 
 pub loop-source-preserved : goal.loop-source-preserved
@@ -43,7 +46,10 @@ pub returns-clause-taken : goal.returns-clause-taken
 returns-clause-taken g c =
     let push = g.C.Collect.meaning (rowed_presentation (cover_presentation c.args.cover.now)) in
     let left = c.loop-source.source-iterator.rest in
-    let none : c.loop-source.source-iterator.rest.items ≡ [] = nil_from_length left.items (omega (arith, left.ok, c.in-None.ensures.steps.0)) in
+    let none : c.loop-source.source-iterator.rest.items ≡ [] =
+    nil_from_length left.items (omega (arith, left.ok, c.in-None.ensures.steps.0)) in
     let all : c.loop-source.yielded ≡ c.args.sources.items =
-    sym (append-nil c.loop-source.yielded) ∙ ap (λ (l : List RowSource). c.loop-source.yielded ++ l) (sym none) ∙ c.loop-source.invariant.2 in
-    subst (λ (ss : List RowSource). HaveTakenMore c.args.pres.now c.args.cover.now push ss c.args.self.now c.loop-source.self) all c.loop-source.invariant.4
+    sym (append-nil c.loop-source.yielded)
+    ∙ ap (λ (l : List RowSource). c.loop-source.yielded ++ l) (sym none) ∙ c.loop-source.invariant.2 in
+    subst (λ (ss : List RowSource). HaveTakenMore c.args.pres.now c.args.cover.now push ss c.args.self.now c.loop-source.self) all
+    c.loop-source.invariant.4

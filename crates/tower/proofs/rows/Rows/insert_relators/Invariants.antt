@@ -13,4 +13,5 @@ invariant-loop-source g l =
     × IsWork l.fn.cover l.work
     × (l.yielded ++ l.source-iterator.rest.items ≡ l.fn.sources.items)
     × AreOver l.fn.cover l.self
-    × HaveTakenMore l.fn.pres l.fn.cover (g.C.Collect.meaning (rowed_presentation (cover_presentation l.fn.cover))) l.yielded l.fn.self l.self
+    × HaveTakenMore l.fn.pres l.fn.cover (g.C.Collect.meaning (rowed_presentation (cover_presentation l.fn.cover))) l.yielded l.fn.self
+    l.self

@@ -1,6 +1,6 @@
 //! The kept columns of a basis, and what becomes of a tail: a combination of the kept ones.
 
-ghost use Rattle.std.specs.Prelude.{◌≡◌, ◌≤◌, ◌-◌, map, get_or, length, All, IfOk};
+ghost use Rattle.std.specs.Prelude.{◌≡◌, ◌≤◌, ◌-◌, [], map, get_or, length, All, IfOk};
 ghost use Rattle.pq_base.specs.Limits.{max_rank};
 ghost use Rattle.fp_rows.specs.Row.{at_column, IsColumn};
 ghost use Rattle.fp_echelon.specs.Reduction.{negative};

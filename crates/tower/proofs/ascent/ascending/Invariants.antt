@@ -12,8 +12,8 @@ use Rattle.tower.proofs.ascent.ascending.Given as goal
 abbrev pub invariant-loop-k : goal.invariant-loop-k
 invariant-loop-k g l =
     IsSpunGrown l.fn.pres l.recorded.items (prime_value l.fn.prime) l.k l.answer
-    × ((steps : List HeldStep) → g.L.Log.keeps l.log l.fn.part steps → length steps ≡ l.k)
-    × KeepsTheSame (g.L.Log.keeps l.fn.log (other_run l.fn.part)) (g.L.Log.keeps l.log (other_run l.fn.part))
-    × (g.L.Log.keeps l.fn.log l.fn.part []
+    × ((steps : List HeldStep) → g.L.Log.keeps l.log l.fn.run steps → length steps ≡ l.k)
+    × KeepsTheSame (g.L.Log.keeps l.fn.log (other_run l.fn.run)) (g.L.Log.keeps l.log (other_run l.fn.run))
+    × (g.L.Log.keeps l.fn.log l.fn.run []
     → HoldsSteps g.L.Log.FULL (part l.fn.pres iterated_part) g.C.Collect.meaning (prime_value l.fn.prime) l.k
-    (g.L.Log.keeps l.log l.fn.part) l.answer)
+    (g.L.Log.keeps l.log l.fn.run) l.answer)
